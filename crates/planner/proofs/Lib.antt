@@ -1,0 +1,4 @@
+pub mod Headers
+pub mod Filled
+pub mod Answers
+pub mod Placed

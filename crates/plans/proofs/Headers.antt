@@ -1,0 +1,65 @@
+-- Accepted headers, method by method: what holds of each method's headers holds of every accepted one. And the words of a header's plan.
+-- Rests on blocks.
+use mathlib.Core.Path.{_≡_, refl}
+use Prim.Native.Nat.{ℕ, zero, suc, _+_, _<_, _≤_}
+use native.Mathlib.Omega.{arith}
+use lib.ListN.{length, getD, length-map}
+use Rattle.machine.specs.Instruction.{Instruction}
+use Rattle.machine.specs.Word.{encode}
+use Rattle.plans.specs.declared.Header.{Header}
+use Rattle.plans.specs.Limits.{far}
+use Rattle.plans.specs.Method1 as Method1
+use Rattle.plans.specs.Method2 as Method2
+use Rattle.plans.specs.Plan.{headerWord, Accepted, instructionsOf, planOf}
+use Rattle.plans.proofs.Blocks.{map-at}
+
+-- ---- by method
+
+abbrev pub header : (method vertices edges source : ℕ) → Header
+header method vertices edges source =
+    record { method = method; vertices = vertices; edges = edges; source = source }
+
+module _ (P : Header → Type 0)
+    (one : (n m source : ℕ) → Accepted (header 1 n m source) → P (header 1 n m source))
+    (two : (n source : ℕ) → Accepted (header 2 n 0 source) → P (header 2 n 0 source)) where
+  at-method : (method n m source : ℕ) → Accepted (header method n m source) → P (header method n m source)
+  at-method zero n m source a = let no : ⊥ = omega arith in absurd no
+  at-method (suc zero) n m source a = one n m source a
+  at-method (suc (suc zero)) n zero source a = two n source a
+  at-method (suc (suc zero)) n (suc m) source a = let no : ⊥ = omega arith in absurd no
+  at-method (suc (suc (suc k))) n m source a = let no : ⊥ = omega arith in absurd no
+
+  pub by-method : (h : Header) → Accepted h → P h
+  by-method h a = at-method (h .method) (h .vertices) (h .edges) (h .source) a
+
+pub edges-small : (h : Header) → Accepted h → h .edges ≤ 128
+edges-small = by-method (λ h. h .edges ≤ 128) (λ n m source a. a .edges-few) (λ n source a. omega arith)
+
+-- ---- the plan's instructions and words
+
+module _ (h : Header) where
+  pub instructions-one : h .method ≡ 1
+      → instructionsOf h
+      ≡ Method1.plan (Method1.places (h .vertices) (h .edges)) far (h .vertices) (h .edges) (h .source)
+  unfolding instructionsOf
+  instructions-one e = rw e
+
+  pub instructions-two : h .method ≡ 2
+      → instructionsOf h ≡ Method2.plan (Method2.places (h .vertices)) far (h .vertices) (h .source)
+  unfolding instructionsOf
+  instructions-two e = rw e
+
+  pub plan-first : getD (planOf h) 0 0 ≡ headerWord h
+  unfolding planOf
+  plan-first = refl
+
+  pub plan-length : length (planOf h) ≡ length (instructionsOf h) + 1
+  unfolding planOf
+  plan-length = omega (arith, length-map (instructionsOf h) encode)
+
+  pub plan-at : (k j : ℕ) (d : Instruction ℕ) → k ≡ j + 1 → k < length (planOf h)
+      → getD (planOf h) k 0 ≡ encode (getD (instructionsOf h) j d)
+  unfolding planOf
+  plan-at k j d e l =
+      let s : k ≡ suc j = omega arith in
+      rw s (map-at encode (instructionsOf h) j d 0 (omega (arith, plan-length)))

@@ -1,0 +1,9 @@
+pub mod Blocks
+pub mod Weights
+pub mod Bounds
+pub mod Headers
+pub mod Addresses
+pub mod Figures
+pub mod Same
+pub mod At1
+pub mod At2

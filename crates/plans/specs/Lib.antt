@@ -1,0 +1,5 @@
+pub mod Limits
+pub mod Blocks
+pub mod Method1
+pub mod Method2
+pub mod Plan

@@ -1,0 +1,23 @@
+-- The numbers that document 01 fixes, each named once. Rests on nothing.
+use mathlib.Core.List.{List, [], _∷_}
+use Prim.Native.Nat.{ℕ, _^_}
+use lib.IntN.{ℤ, pos}
+use lib.ListN.{getD}
+
+-- The mark of an unreached vertex (FAR).
+abbrev pub far : ℤ
+far = pos (2 ^ 38)
+
+-- What a method has of a row of values, the first for method 1; `other` where there is no such method.
+abbrev pub byMethod : {X : Type 0} → (method : ℕ) (other : X) → List X → X
+byMethod method other row = getD (other ∷ row) method other
+
+-- The greatest method number, and the greatest counts of vertices and edges.
+abbrev pub mostMethod : ℕ
+mostMethod = 2
+
+abbrev pub mostVertices : ℕ
+mostVertices = 32
+
+abbrev pub mostEdges : (method : ℕ) → ℕ
+mostEdges method = byMethod method 0 (128 ∷ 0 ∷ [])

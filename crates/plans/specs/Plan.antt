@@ -1,0 +1,56 @@
+-- The plan of a header, as words: it follows from the header alone. Its length, its rounds and the cells it needs, as document 01 gives them.
+-- Rests on the methods' plans and on the machine's words.
+use mathlib.Core.List.{List, [], _∷_, map}
+use Prim.Native.Nat.{ℕ, _+_, _-_, _*_, _<_, _≤_}
+use Rattle.fields.specs.Fields.{fieldOf}
+use Rattle.machine.specs.Instruction.{Instruction}
+use Rattle.machine.specs.Word.{packed, encode}
+use Rattle.plans.specs.declared.Header.{Header}
+use Rattle.plans.specs.Limits.{far, byMethod, mostMethod, mostVertices, mostEdges}
+use Rattle.plans.specs.Method1 as Method1
+use Rattle.plans.specs.Method2 as Method2
+
+-- Header word: method 4 bits, n 20, m 20, source 20.
+abbrev pub headerOf : (word : ℕ) → Header
+headerOf w =
+    record { method = fieldOf 60 4 w; vertices = fieldOf 40 20 w; edges = fieldOf 20 20 w; source = fieldOf 0 20 w }
+
+abbrev pub headerWord : Header → ℕ
+headerWord h = packed (h .method) (h .vertices) (h .edges) (h .source)
+
+-- Within the limits: refusals 1 to 4 let it pass.
+pub record Accepted (h : Header) : Type 0 where
+  pub method-some : 0 < h .method
+  pub method-known : h .method ≤ mostMethod
+  pub vertices-some : 0 < h .vertices
+  pub vertices-few : h .vertices ≤ mostVertices
+  pub edges-few : h .edges ≤ mostEdges (h .method)
+  pub source-there : h .source < h .vertices
+
+unfoldable pub instructionsOf : Header → List (Instruction ℕ)
+instructionsOf h =
+    byMethod (h .method) []
+    (Method1.plan (Method1.places (h .vertices) (h .edges)) far (h .vertices) (h .edges) (h .source)
+    ∷ Method2.plan (Method2.places (h .vertices)) far (h .vertices) (h .source)
+    ∷ [])
+
+-- The plan: the header word, then the operation words.
+unfoldable pub planOf : Header → List ℕ
+planOf h = headerWord h ∷ map encode (instructionsOf h)
+
+-- The cells that it needs.
+unfoldable pub cellsOf : Header → ℕ
+cellsOf h = byMethod (h .method) 0 (Method1.cellCount (h .vertices) (h .edges) ∷ Method2.cellCount (h .vertices) ∷ [])
+
+-- Its length, and the sum of its rounds.
+unfoldable pub lengthOf : Header → ℕ
+lengthOf h =
+    let n = h .vertices in
+    byMethod (h .method) 0
+    ((3 * n + 4 + h .edges * (8 * (n * n) + 3 * n - 1)) ∷ (n * n * n + 11 * (n * n) + 6 * n + 3) ∷ [])
+
+unfoldable pub roundsOfPlan : Header → ℕ
+roundsOfPlan h =
+    let n = h .vertices in
+    byMethod (h .method) 0
+    ((3 * n + 3 + h .edges * (23 * (n * n) + 6 * n - 1)) ∷ (n * n * n + 24 * (n * n) + 5 * n + 2) ∷ [])

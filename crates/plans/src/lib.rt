@@ -1,0 +1,20 @@
+// The header of a request and of its plan, and the limits. The rest of this crate is theory: the plans of the methods and the laws about them.
+// Rests on fields and machine.
+
+// The mark of an unreached vertex.
+pub const FAR: i64 = 274877906944;
+
+// The greatest method number, and the greatest counts.
+pub const MOST_METHOD: u64 = 2;
+
+pub const MOST_VERTICES: u64 = 32;
+
+pub const MOST_EDGES: u64 = 128;
+
+// What is public of a request (document 01, "Request words": method, n yards, m lanes, source).
+pub struct Header {
+    pub method: u64,
+    pub vertices: u64,
+    pub edges: u64,
+    pub source: u64,
+}
