@@ -1,0 +1,6 @@
+-- The definitions: walks, what distances and parents have to be, Bellman-Ford and Dijkstra.
+-- Rests on nothing.
+pub mod Walk
+pub mod Shortest
+pub mod BellmanFord
+pub mod Dijkstra

@@ -1,0 +1,227 @@
+-- Method 1's blocks for an edge on named stores: its relaxation and its check are those of Bellman-Ford.
+-- Rests on stores, names, bits and filled regions.
+use mathlib.Core.Path.{_≡_, refl, ap, _∙_}
+use mathlib.Core.Logic.{_⊎_, inl, inr}
+use mathlib.Core.Bool.{Bool, _&&_, _||_}
+use mathlib.Core.List.{List}
+use Prim.Native.Nat.{ℕ, suc, _+_, _^_, _<_, _≤_}
+use native.Mathlib.Omega.{arith}
+use borrow.Author.Tests.{eqb-true}
+use lib.Dec.{eqb}
+use lib.IntN.{ℤ, pos, natAbs, _+ℤ_}
+use lib.Signed.{ltZ}
+use Rattle.machine.specs.Instruction.{Instruction}
+use Rattle.machine.specs.Effect.{bit, wrapAdd}
+use Rattle.plans.specs.Method1.{Places, select, gatherParts, gather, update, test, relaxParts, relax, checkParts, check}
+use Rattle.graph.specs.Walk.{Edge}
+use Rattle.graph.specs.BellmanFord.{State, offer, gain, relaxed}
+use Rattle.methods.specs.Method1.{Limited}
+use Rattle.methods.proofs.Stores.{Runs, runs-concat, loop}
+use Rattle.methods.proofs.Names.{Name, same, Store}
+use Rattle.methods.proofs.Bits.{eqb-sym, both-bit, pick-bit, raised, and-at, sum-exact}
+use Rattle.methods.proofs.Filled.{upto, upto-zero, upto-here, upto-all, upto-suc}
+
+abbrev pub names : Places Name
+names =
+    record {
+      from = λ i. (0, i);
+      to = λ i. (1, i);
+      weight = λ i. (2, i);
+      D = λ v. (3, v);
+      P = λ v. (4, v);
+      Y = λ v. (5, v);
+      X = λ j. (6, j);
+    }
+
+open Places names using (from, to, weight, D, P, Y, X)
+
+-- ---- the sums that the method forms
+
+module _ (far limit : ℕ) where
+  -- A distance that is far, or near enough for one more edge.
+  abbrev pub Near : ℤ → Type 0
+  Near x = (x ≡ pos far) ⊎ (natAbs x + limit < far)
+
+  -- A distance and a weight.
+  abbrev pub Sum : ℤ → ℤ → Type 0
+  Sum x w = Near x × (natAbs w ≤ limit)
+
+  pub near-exact : far + limit < 2 ^ 63 → (x w : ℤ) → Sum x w → wrapAdd x w ≡ x +ℤ w
+  near-exact fits x w (inl e, l) = sum-exact x w (rw e (omega arith))
+  near-exact fits x w (inr h, l) = sum-exact x w (omega arith)
+
+  abbrev pub Does : List (Instruction Name) → (Store → Type 0) → Store → Type 0
+  Does = Runs same Sum
+
+-- ---- what a store holds
+
+module _ (far : ℕ) (edge : ℕ → Edge) (n m : ℕ) where
+  -- What no block writes. A record type with no name: a proof for a store is, by computation, one for the store after other writes.
+  abbrev pub Fixed : Store → Type 0
+  Fixed s =
+      record {
+        from : (i : ℕ) → i < m → s (from i) ≡ pos (edge i .from);
+        to : (i : ℕ) → i < m → s (to i) ≡ pos (edge i .to);
+        weight : (i : ℕ) → i < m → s (weight i) ≡ edge i .weight;
+        vertex : (v : ℕ) → v < n → s (Y v) ≡ pos v;
+        far : s (X 0) ≡ pos far;
+      }
+
+  -- The edges, the state and the flag.
+  abbrev pub Holds : State → ℤ → Store → Type 0
+  Holds st flag s =
+      record {
+        fixed : Fixed s;
+        dist : (v : ℕ) → v < n → s (D v) ≡ st .dist v;
+        parent : (v : ℕ) → v < n → s (P v) ≡ st .parent v;
+        flag : s (X 7) ≡ flag;
+      }
+
+module _ (far limit : ℕ) (edge : ℕ → Edge) (n m : ℕ) (limited : Limited limit edge n m) (fits : far + limit < 2 ^ 63)
+    (st : State) (i : ℕ) (l : i < m) (near : Near far limit (st .dist (edge i .from))) where
+  abbrev u : ℕ
+  u = edge i .from
+
+  -- ---- the from-vertex's distance, the offer, and whether the from-vertex is reached
+
+  module _ (flag : ℤ) where
+    abbrev Selected : ℕ → Store → Type 0
+    Selected k t = Holds far edge n m st flag t × (t (X 1) ≡ upto k (st .dist) (λ v. pos far) u)
+
+    abbrev Gathered : Store → Type 0
+    Gathered t =
+        Holds far edge n m st flag t × (t (X 2) ≡ offer edge i st) × (t (X 4) ≡ bit (ltZ (st .dist u) (pos far)))
+
+    select-step : (k : ℕ) (t : Store) → k < n → Selected k t → Does far limit (select names (pos far) n i k) (Selected (suc k)) t
+    select-step k t lk (h, x) = (
+      h,
+      simp (pick-bit, h .fixed .from i l, h .fixed .vertex k lk, h .dist k lk, x, eqb-sym u k)
+          (upto-suc (st .dist) (λ v. pos far) k u),
+    )
+
+    gather-runs : (R : Store → Type 0) (s : Store) → Holds far edge n m st flag s → ((t : Store) → Gathered t → R t)
+        → Does far limit (gather names (pos far) n i) R s
+    unfolding gather
+    gather-runs R s h then =
+        runs-concat same (Sum far limit) (gatherParts names (pos far) n i) R s
+        (loop same (Sum far limit) Selected (select names (pos far) n i) n _ _
+        (h, h .fixed .far ∙ upto-zero (st .dist) (λ v. pos far) u)
+        select-step
+        (λ t (h, x).
+        let e : t (X 1) ≡ st .dist u = x ∙ upto-all (st .dist) (λ v. pos far) n u (limited .from-below i l) in
+        let sum : Sum far limit (st .dist u) (edge i .weight) = (near, limited .weight-most i l) in
+        let exact = near-exact far limit fits (st .dist u) (edge i .weight) sum in (
+          rw (e, h .fixed .weight i l) sum,
+          then _ (h, simp (e, h .fixed .weight i l) exact, simp (e, h .fixed .far)),
+        )))
+
+  -- The test made at vertex k: only the to-vertex can gain.
+  test-at : (k : ℕ) → ((ltZ (offer edge i st) (st .dist k) && ltZ (st .dist u) (pos far)) && eqb (edge i .to) k)
+      ≡ (gain edge (pos far) i st && eqb (edge i .to) k)
+  test-at k = and-at (λ v. ltZ (offer edge i st) (st .dist v)) (ltZ (st .dist u) (pos far)) (edge i .to) k
+
+  -- ---- the relaxation
+
+  module _ (flag : ℤ) where
+    abbrev next : State
+    next = relaxed edge (pos far) i st
+
+    -- The vertices below k are done.
+    abbrev mix : ℕ → State
+    mix k = record { dist = upto k (next .dist) (st .dist); parent = upto k (next .parent) (st .parent) }
+
+    abbrev Updated : ℕ → Store → Type 0
+    Updated k t =
+        Holds far edge n m (mix k) flag t
+        × (t (X 2) ≡ offer edge i st)
+        × (t (X 4) ≡ bit (ltZ (st .dist u) (pos far)))
+        × (t (X 3) ≡ pos i)
+
+    update-step : (k : ℕ) (t : Store) → k < n → Updated k t → Does far limit (update names (pos far) n i k) (Updated (suc k)) t
+    update-step k t lk (h, x2, x4, x3) =
+        let to-k = h .fixed .to i l in
+        let y = h .fixed .vertex k lk in
+        let d : t (D k) ≡ st .dist k = h .dist k lk ∙ upto-here (next .dist) (st .dist) k in
+        let p : t (P k) ≡ st .parent k = h .parent k lk ∙ upto-here (next .parent) (st .parent) k in (
+          record {
+            fixed = h .fixed;
+            dist =
+                λ v lv.
+                simp (both-bit, pick-bit, x2, x4, to-k, y, d, test-at k, h .dist v lv)
+                (upto-suc (next .dist) (st .dist) k v);
+            parent =
+                λ v lv.
+                simp (both-bit, pick-bit, x2, x4, x3, to-k, y, d, p, test-at k, h .parent v lv)
+                (upto-suc (next .parent) (st .parent) k v);
+            flag = h .flag;
+          },
+          x2,
+          x4,
+          x3,
+        )
+
+    pub relax-runs : (s : Store) → Holds far edge n m st flag s
+        → Does far limit (relax names (pos far) n i) (Holds far edge n m next flag) s
+    unfolding relax
+    relax-runs s h =
+        runs-concat same (Sum far limit) (relaxParts names (pos far) n i) (Holds far edge n m next flag) s
+        (gather-runs flag _ s h
+        (λ t (h, x2, x4).
+        loop same (Sum far limit) Updated (update names (pos far) n i) n _ _ (
+          record {
+            fixed = h .fixed;
+            dist = λ v lv. h .dist v lv ∙ upto-zero (next .dist) (st .dist) v;
+            parent = λ v lv. h .parent v lv ∙ upto-zero (next .parent) (st .parent) v;
+            flag = h .flag;
+          },
+          x2,
+          x4,
+          refl,
+        )
+        update-step
+        (λ t (h, _, _, _).
+        record {
+          fixed = h .fixed;
+          dist = λ v lv. h .dist v lv ∙ upto-all (next .dist) (st .dist) n v lv;
+          parent = λ v lv. h .parent v lv ∙ upto-all (next .parent) (st .parent) n v lv;
+          flag = h .flag;
+        })))
+
+  -- ---- the check: the flag is raised where the edge has a gain
+
+  module _ (b : Bool) where
+    abbrev old : ℕ → ℤ
+    old v = bit b
+
+    abbrev new : ℕ → ℤ
+    new v = bit (b || gain edge (pos far) i st)
+
+    abbrev Tested : ℕ → Store → Type 0
+    Tested k t = Gathered (upto k new old (edge i .to)) t
+
+    test-step : (k : ℕ) (t : Store) → k < n → Tested k t → Does far limit (test names (pos far) n i k) (Tested (suc k)) t
+    test-step k t lk (h, x2, x4) = (
+      record {
+        fixed = h .fixed;
+        dist = h .dist;
+        parent = h .parent;
+        flag =
+            simp (both-bit, pick-bit, x2, x4, h .fixed .to i l, h .fixed .vertex k lk, h .dist k lk, h .flag, test-at k)
+            (raised (gain edge (pos far) i st) b (eqb (edge i .to) k) (upto k new old (edge i .to))
+            (λ e. ap (upto k new old) (eqb-true (edge i .to) k e) ∙ upto-here new old k)
+            ∙ rw (eqb-sym (edge i .to) k) (upto-suc new old k (edge i .to)));
+      },
+      x2,
+      x4,
+    )
+
+    pub check-runs : (s : Store) → Holds far edge n m st (bit b) s
+        → Does far limit (check names (pos far) n i) (Holds far edge n m st (bit (b || gain edge (pos far) i st))) s
+    unfolding check
+    check-runs s h =
+        runs-concat same (Sum far limit) (checkParts names (pos far) n i) _ s
+        (gather-runs (bit b) _ s h
+        (λ t (h, x2, x4).
+        loop same (Sum far limit) Tested (test names (pos far) n i) n _ _ (rw (← upto-zero new old (edge i .to)) h, x2, x4)
+        test-step
+        (λ t (h, _, _). rw (← upto-all new old n (edge i .to) (limited .to-below i l)) h)))

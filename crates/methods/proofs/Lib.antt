@@ -1,0 +1,14 @@
+pub mod Sums
+pub mod Stores
+pub mod Banks
+pub mod Names
+pub mod Bits
+pub mod Filled
+pub mod Words
+pub mod Edges
+pub mod Passes
+pub mod Method1
+pub mod Turns
+pub mod Method2
+pub mod Rooms
+pub mod Headers

@@ -1,0 +1,35 @@
+-- Room for both methods, within 32 vertices and 128 edges: two inequalities, met by today's numbers and by those of ask 7.
+-- Rests on nothing.
+use Prim.Native.Nat.{ℕ, suc, _+_, _-_, _*_, _^_, _<_, _≤_}
+use native.Mathlib.Nat.{mul-le-mul, mul-le-mul-right}
+use native.Mathlib.Omega.{arith}
+use lib.Dec.{lit<}
+use lib.IntN.{natAbs}
+use Rattle.plans.specs.Limits as Limits
+use Rattle.methods.specs.Method1 as Method1
+use Rattle.methods.specs.Method2 as Method2
+
+-- 31 passes over 128 edges and one checked edge are fewer than 4096 edges; method 2 adds far to far.
+pub record Wide (far limit : ℕ) : Type 0 where
+  pub deep : 4096 * limit < far
+  pub fits : far + far < 2 ^ 63
+
+module _ (far limit : ℕ) (wide : Wide far limit) (n : ℕ) (few : n ≤ 32) where
+  pub room1 : (m : ℕ) → m ≤ 128 → Method1.Room far limit n m
+  room1 m l =
+      let relaxed : (n - 1) * m ≤ 3968 = mul-le-mul {n₁ = n - 1} {m₁ = m} {n₂ = 31} {m₂ = 128} (omega arith) l in
+      let most : suc ((n - 1) * m) * limit ≤ 4096 * limit = mul-le-mul-right limit (omega arith) in
+      record { deep = omega (arith, wide .deep); fits = omega (arith, wide .deep, wide .fits) }
+
+  pub room2 : Method2.Room far limit n
+  room2 =
+      let most : n * limit ≤ 4096 * limit = mul-le-mul-right limit (omega arith) in
+      record { deep = omega (arith, wide .deep); fits = wide .fits }
+
+-- Document 01.
+pub today : Wide (natAbs Limits.far) 1000000
+today = record { deep = lit< tt; fits = lit< tt }
+
+-- Ask 7.
+pub finer : Wide (2 ^ 39 - 1) 100000000
+finer = record { deep = lit< tt; fits = lit< tt }

@@ -1,0 +1,3 @@
+pub mod Bank
+pub mod Method1
+pub mod Method2
