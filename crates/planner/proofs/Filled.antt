@@ -1,4 +1,4 @@
--- A list of words written from the start of a buffer, one after the other: the loop's invariant and its laws.
+-- A list written from the start of a buffer, one element after the other: the loop's invariant and its laws. For any type of elements.
 -- Rests on nothing.
 use mathlib.Core.Path.{_≡_, refl, sym, ap, _∙_}
 use mathlib.Core.List.{List, _∷_, _++_}
@@ -9,32 +9,35 @@ use native.Mathlib.Omega.{arith}
 use lib.ListN.{length, getD, set, drop, length-set, drop-of-length-le}
 use lib.Seq.{drop-cons, sets, sets-eq}
 
-pub next : (ws : List ℕ) (k : ℕ) → k < length ws → drop k ws ≡ getD ws k 0 ∷ drop (k + 1) ws
-next ws k h = rw (add-one, drop-cons ws k 0 h)
+module _ {X : Type 0} where
+  -- d is what a look-up gives past a list's end.
+  pub next : (xs : List X) (k : ℕ) (d : X) → k < length xs → drop k xs ≡ getD xs k d ∷ drop (k + 1) xs
+  next xs k d h = rw (add-one, drop-cons xs k d h)
 
--- From the start of a buffer, which stays as it was beyond them.
-pub from-start : (ws buffer : List ℕ) → length ws ≤ length buffer → sets buffer 0 ws ≡ ws ++ drop (length ws) buffer
-from-start ws buffer h = sets-eq ws buffer 0 (omega arith) ∙ ap (λ (k : ℕ). ws ++ drop k buffer) (zero-add (length ws))
+  -- From the start of a buffer, which stays as it was beyond them.
+  pub from-start : (xs buffer : List X) → length xs ≤ length buffer → sets buffer 0 xs ≡ xs ++ drop (length xs) buffer
+  from-start xs buffer h =
+      sets-eq xs buffer 0 (omega arith) ∙ ap (λ (k : ℕ). xs ++ drop k buffer) (zero-add (length xs))
 
--- Before the word at place k: writing what is left gives what writing all of it to the first buffer gives.
-pub record Filling (ws buffer₀ buffer : List ℕ) (k : ℕ) : Type 0 where
-  pub within : k ≤ length ws
-  pub long : length buffer ≡ length buffer₀
-  pub rest : sets buffer k (drop k ws) ≡ sets buffer₀ 0 ws
+  -- Before the element at place k: writing what is left gives what writing all of it to the first buffer gives.
+  pub record Filling (xs buffer₀ buffer : List X) (k : ℕ) : Type 0 where
+    pub within : k ≤ length xs
+    pub long : length buffer ≡ length buffer₀
+    pub rest : sets buffer k (drop k xs) ≡ sets buffer₀ 0 xs
 
-pub start : (ws buffer : List ℕ) → Filling ws buffer buffer 0
-start ws buffer = record { within = zero-le; long = refl; rest = refl }
+  pub start : (xs buffer : List X) → Filling xs buffer buffer 0
+  start xs buffer = record { within = zero-le; long = refl; rest = refl }
 
-pub again : (ws buffer₀ buffer : List ℕ) (k w : ℕ) → k < length ws → w ≡ getD ws k 0 → Filling ws buffer₀ buffer k
-    → Filling ws buffer₀ (set buffer k w) (k + 1)
-again ws buffer₀ buffer k w h e f =
-    record {
-      within = omega arith;
-      long = length-set buffer k w ∙ f .long;
-      rest = rw (e, add-one k) (sym (ap (sets buffer k) (drop-cons ws k 0 h)) ∙ f .rest);
-    }
+  pub again : (xs buffer₀ buffer : List X) (k : ℕ) (x d : X) → k < length xs → x ≡ getD xs k d → Filling xs buffer₀ buffer k
+      → Filling xs buffer₀ (set buffer k x) (k + 1)
+  again xs buffer₀ buffer k x d h e f =
+      record {
+        within = omega arith;
+        long = length-set buffer k x ∙ f .long;
+        rest = rw (e, add-one k) (sym (ap (sets buffer k) (drop-cons xs k d h)) ∙ f .rest);
+      }
 
-pub done : (ws buffer₀ buffer : List ℕ) (k : ℕ) → length ws ≤ k → length ws ≤ length buffer₀ → Filling ws buffer₀ buffer k
-    → buffer ≡ ws ++ drop (length ws) buffer₀
-done ws buffer₀ buffer k h l f =
-    sym (ap (sets buffer k) (drop-of-length-le ws h)) ∙ f .rest ∙ from-start ws buffer₀ l
+  pub done : (xs buffer₀ buffer : List X) (k : ℕ) → length xs ≤ k → length xs ≤ length buffer₀ → Filling xs buffer₀ buffer k
+      → buffer ≡ xs ++ drop (length xs) buffer₀
+  done xs buffer₀ buffer k h l f =
+      sym (ap (sets buffer k) (drop-of-length-le xs h)) ∙ f .rest ∙ from-start xs buffer₀ l

@@ -1,13 +1,14 @@
 -- Refusals (document 01, "Who caused it"): their numbers and places, and which one a header meets first.
 -- Rests on the limits.
 use mathlib.Core.Bool.{Bool, true, false, _&&_}
+use mathlib.Core.List.{List, []}
 use mathlib.Core.Option.{Option, none, some}
 use Prim.Native.Nat.{ℕ}
 use lib.Dec.{ltb, leb}
 use Rattle.plans.specs.declared.Header.{Header}
 use Rattle.plans.specs.Limits.{mostMethod, mostVertices, mostEdges}
 use Rattle.planner.specs.declared.Refusal.{Refusal}
-use Rattle.planner.specs.declared.Refusal.the-variants.{Method, Vertices, Edges, Source, Words, Cells, Log, Results, Operation, Edge, Weight, NegativeCycle}
+use Rattle.planner.specs.declared.Refusal.the-variants.{Method, Vertices, Edges, Source, Words, Cells, Log, Results, Operation, Edge, Weight}
 use Rattle.planner.specs.declared.Checked.{Checked}
 use Rattle.planner.specs.declared.Checked.the-variants.{Accepted, Refused}
 
@@ -23,7 +24,6 @@ number Results = 8
 number (Operation place) = 9
 number (Edge place) = 10
 number (Weight place) = 11
-number NegativeCycle = 12
 
 abbrev pub placeOf : Refusal → Option ℕ
 placeOf Method = none
@@ -37,7 +37,16 @@ placeOf Results = none
 placeOf (Operation place) = some place
 placeOf (Edge place) = some place
 placeOf (Weight place) = some place
-placeOf NegativeCycle = none
+
+-- An answer in document 01's terms: the refusal's number (0 where there is none), its place where there is one, and the values told.
+pub record Told : Type 0 where
+  pub number : ℕ
+  pub place : Option ℕ
+  pub values : List ℕ
+
+-- A refusal tells only its number and its place.
+abbrev pub refused : Refusal → Told
+refused r = record { number = number r; place = placeOf r; values = [] }
 
 -- What a check found.
 abbrev pub found : Checked → Option Refusal

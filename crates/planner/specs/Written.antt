@@ -10,7 +10,7 @@ use Rattle.planner.specs.declared.Refusal.{Refusal}
 use Rattle.planner.specs.declared.Refusal.the-variants.{Method, Log}
 use Rattle.planner.specs.declared.Written.{Written}
 use Rattle.planner.specs.declared.Written.the-variants.{Length, Refused}
-use Rattle.planner.specs.Refusal.{need, headerRefusal}
+use Rattle.planner.specs.Refusal.{Told, refused, need, headerRefusal}
 
 -- The first refusal of two checks.
 abbrev pub orElse : Option Refusal → Option Refusal → Option Refusal
@@ -22,13 +22,22 @@ unfoldable pub planRefusal : (header : List ℕ) (room : ℕ) → Option Refusal
 planRefusal [] room = some Method
 planRefusal (w ∷ rest) room = orElse (headerRefusal (headerOf w)) (need (leb (length (planOf (headerOf w))) room) Log none)
 
+-- The words from the start of a buffer, which stays as it was beyond them.
+abbrev pub overwritten : {X : Type 0} (words buffer : List X) → List X
+overwritten words buffer = words ++ drop (length words) buffer
+
+-- What an answer says.
+abbrev pub told : Written → Told
+told (Length size) = record { number = 0; place = none; values = size ∷ [] }
+told (Refused r) = refused r
+
 -- The answer and the buffer, for the plan's words and the refusal met.
-abbrev pub answerOf : Option Refusal → (plan : List ℕ) → Written
-answerOf none plan = Length (length plan)
-answerOf (some r) plan = Refused r
+abbrev pub answerOf : Option Refusal → (plan : List ℕ) → Told
+answerOf none plan = record { number = 0; place = none; values = length plan ∷ [] }
+answerOf (some r) plan = refused r
 
 abbrev pub bufferOf : Option Refusal → (plan buffer : List ℕ) → List ℕ
-bufferOf none plan buffer = plan ++ drop (length plan) buffer
+bufferOf none plan buffer = overwritten plan buffer
 bufferOf (some r) plan buffer = buffer
 
 -- The plan of a header's first word.
@@ -36,5 +45,5 @@ abbrev pub planWords : (header : List ℕ) → List ℕ
 planWords header = planOf (headerOf (getD header 0 0))
 
 pub record WrittenPlan (header buffer : List ℕ) (answer : Written) (after : List ℕ) : Type 0 where
-  pub answers : answer ≡ answerOf (planRefusal header (length buffer)) (planWords header)
+  pub answers : told answer ≡ answerOf (planRefusal header (length buffer)) (planWords header)
   pub leaves : after ≡ bufferOf (planRefusal header (length buffer)) (planWords header) buffer

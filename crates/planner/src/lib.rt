@@ -5,18 +5,18 @@ mod method2;
 
 use plans::Header;
 ghost use mathlib.Core.Path.{_≡_};
-ghost use mathlib.Core.List.{_++_};
 ghost use Prim.Native.Nat.{_<_, _≤_, _^_, _+_};
-ghost use lib.ListN.{length, getD, drop};
+ghost use lib.ListN.{length, getD};
 ghost use Rattle.machine.specs.Word.{encode};
 ghost use Rattle.plans.specs.Limits.{far, mostEdges};
 ghost use Rattle.plans.specs.Blocks.{starts};
 ghost use Rattle.plans.specs.Plan.{headerOf, Accepted, planOf, lengthOf};
 ghost use Rattle.planner.specs.Refusal.{found, headerRefusal};
-ghost use Rattle.planner.specs.Written.{WrittenPlan};
+ghost use Rattle.planner.specs.Written.{overwritten, WrittenPlan};
 ghost use Rattle.planner.specs.Word.{stop};
 
-// Why a request, a plan or a buffer is refused (document 01, "Who caused it"), with the place where there is one.
+// Why a request, a plan or a buffer is refused (document 01, "Who caused it", 1 to 11), with the place where there is one. 12 comes with a
+// run's own answer, so it is no case here.
 pub enum Refusal {
     Method,
     Vertices,
@@ -29,7 +29,6 @@ pub enum Refusal {
     Operation(usize),
     Edge(usize),
     Weight(usize),
-    NegativeCycle,
 }
 
 pub enum Checked {
@@ -135,7 +134,7 @@ pub fn word_at(h: Header, k: usize) -> u64
 // The plan written to the start of a buffer.
 fn fill(h: Header, plan: &mut [u64], size: usize)
     requires { ⌜ Accepted h × (size ≡ lengthOf h) × (size ≤ length (now plan)) ⌝ }
-    ensures { λ _. ⌜ now (plan .exit) ≡ planOf h ++ drop (length (planOf h)) (now (plan .entry)) ⌝ }
+    ensures { λ _. ⌜ now (plan .exit) ≡ overwritten (planOf h) (now (plan .entry)) ⌝ }
 {
     let mut k: usize = 0;
     while k < size {

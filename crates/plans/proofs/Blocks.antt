@@ -91,6 +91,17 @@ module _ {X : Type 0} where
         ∙ ap (λ (l : List X). getD l j d) e
         ∙ flat-div count j d z h
 
+-- One element for each place.
+module _ {X : Type 0} (f : ℕ → X) (count : ℕ) where
+  pub ones-length : length (flat count (λ k. f k ∷ [])) ≡ count
+  ones-length = omega (arith, flat-length 1 (λ k. f k ∷ []) (λ i. refl) count)
+
+  pub ones-at : (d : X) (k : ℕ) → k < count → getD (flat count (λ k. f k ∷ [])) k d ≡ f k
+  ones-at d k l =
+      let e : k ≡ k * 1 + 0 = omega arith in
+      ap (λ (j : ℕ). getD (flat count (λ k. f k ∷ [])) j d) e
+      ∙ flat-at 1 (λ k. f k ∷ []) (λ i. refl) count k 0 d l (omega arith)
+
 pub map-at : {X Z : Type 0} (f : X → Z) (xs : List X) (k : ℕ) (d : X) (e : Z) → k < length xs
     → getD (map f xs) k e ≡ f (getD xs k d)
 map-at f [] k d e h = absurd (not-suc-le-zero h)

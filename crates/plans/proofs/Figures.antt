@@ -1,7 +1,7 @@
 -- The figures of document 01: a plan's length and its rounds, for every header and for the largest ones.
 -- Rests on the blocks' weights, on the plan's fields and on the machine's laws of words.
 use mathlib.Core.Path.{_≡_, refl, _∙_}
-use Prim.Native.Nat.{ℕ, _+_, _-_, _*_, _<_}
+use Prim.Native.Nat.{ℕ, _+_, _-_, _*_, _<_, _≤_}
 use native.Mathlib.Omega.{arith}
 use lib.IntN.{ℤ}
 use lib.ListN.{length, getD, drop}
@@ -16,6 +16,7 @@ use Rattle.plans.specs.Method2 as Method2
 use Rattle.plans.specs.Plan.{Accepted, instructionsOf, planOf, lengthOf, roundsOfPlan}
 use Rattle.plans.proofs.Blocks.{total-ones, total-map}
 use Rattle.plans.proofs.Weights.{plan1-weight, plan2-weight}
+use Rattle.plans.proofs.Bounds.{square-le, cube-le, figure-le}
 use Rattle.plans.proofs.Headers.{header, by-method, plan-length}
 use Rattle.plans.proofs.Addresses.{fits-plan}
 
@@ -54,6 +55,14 @@ length-plan h a =
     (λ n m source a. length1 (Method1.places n m) far n m source (a .vertices-some))
     (λ n source a. length2 (Method2.places n) far n source)
     h a
+
+-- No plan is longer than the largest one of method 1.
+pub length-most : (h : Header) → Accepted h → lengthOf h ≤ 1060836
+unfolding lengthOf
+length-most =
+    by-method (λ h. lengthOf h ≤ 1060836)
+    (λ n m source a. omega (arith, figure-le n m (a .vertices-few) (a .edges-few), a .vertices-few))
+    (λ n source a. omega (arith, square-le n (a .vertices-few), cube-le n (a .vertices-few), a .vertices-few))
 
 pub rounds-plan : (h : Header) → Accepted h → total roundsOf (drop 1 (planOf h)) ≡ roundsOfPlan h
 unfolding planOf instructionsOf roundsOfPlan

@@ -1,7 +1,7 @@
 -- The numbers that document 01 fixes, each named once. Rests on nothing.
 use mathlib.Core.List.{List, [], _∷_}
-use Prim.Native.Nat.{ℕ, _^_}
-use lib.IntN.{ℤ, pos}
+use Prim.Native.Nat.{ℕ, _-_, _^_}
+use lib.IntN.{ℤ, pos, negsuc}
 use lib.ListN.{getD}
 
 -- The mark of an unreached vertex (FAR).
@@ -9,7 +9,7 @@ abbrev pub far : ℤ
 far = pos (2 ^ 38)
 
 -- What a method has of a row of values, the first for method 1; `other` where there is no such method.
-abbrev pub byMethod : {X : Type 0} → (method : ℕ) (other : X) → List X → X
+abbrev pub byMethod {ℓ} : {X : Type ℓ} → (method : ℕ) (other : X) → List X → X
 byMethod method other row = getD (other ∷ row) method other
 
 -- The greatest method number, and the greatest counts of vertices and edges.
@@ -21,3 +21,10 @@ mostVertices = 32
 
 abbrev pub mostEdges : (method : ℕ) → ℕ
 mostEdges method = byMethod method 0 (128 ∷ 0 ∷ [])
+
+-- Weights (prices): from the least of the method to the greatest. In method 2, -1 stands for no edge.
+abbrev pub mostWeight : ℕ
+mostWeight = 1000000
+
+abbrev pub leastWeight : (method : ℕ) → ℤ
+leastWeight method = byMethod method (pos 0) (negsuc (mostWeight - 1) ∷ negsuc 0 ∷ [])

@@ -11,6 +11,9 @@ pub const MOST_VERTICES: u64 = 32;
 
 pub const MOST_EDGES: u64 = 128;
 
+// The greatest weight, and the least one of an edge in method 1 (document 01: the range of prices).
+pub const MOST_WEIGHT: i64 = 1000000;
+
 // What is public of a request (document 01, "Request words": method, n yards, m lanes, source).
 pub struct Header {
     pub method: u64,

@@ -37,7 +37,7 @@ loop-less c = omega arith
 loop-again : tie.Need-loop-again Inv-loop μ-loop
 loop-again c =
     let s = c .before .before .before .before in
-    again _ _ _ _ _ (omega (arith, length-plan (s .args .h) (s .pre .0), s .pre .1)) (c .word-at .ensures) (c .before .before .loop .inv)
+    again _ _ _ _ _ 0 (omega (arith, length-plan (s .args .h) (s .pre .0), s .pre .1)) (c .word-at .ensures) (c .before .before .loop .inv)
 
 same-length : tie.Need-same-length Inv-loop μ-loop
 same-length c = search needs

@@ -1,0 +1,58 @@
+-- What lies beyond the needed parts of the lent buffers stays as it was.
+-- Rests on the outcome of a run.
+use mathlib.Core.Path.{_≡_, refl, sym, ap, _∙_}
+use mathlib.Core.List.{List}
+use Prim.Native.Nat.{ℕ, _+_, _-_}
+use native.Mathlib.Omega.{arith}
+use lib.IntN.{pos}
+use lib.ListN.{length, drop, length-drop}
+use lib.Seq.{drop-at, ext-getD, getD-drop}
+use Rattle.machine.specs.Effect.{cellAt}
+use Rattle.machine.proofs.Carried.{length-after}
+use Rattle.plans.specs.Plan.{cellsOf}
+use Rattle.requests.specs.Refusal.{logLengthOf}
+use Rattle.requests.proofs.Laid.{start-rest}
+use Rattle.requests.specs.Within.{headerIn, wordsIn}
+use Rattle.requests.proofs.Copied.{copied-beyond}
+use Rattle.engine.specs.Run.{Lent, startOf, logOfRun, cellsLeft}
+use Rattle.engine.specs.Demands.{RanOn, Beyond}
+use Rattle.engine.proofs.Taken.{long}
+use Rattle.engine.proofs.Ran.{inside, leaves, by-verdict, cells-are, log-is, log-long}
+
+module _ (request : List ℕ) (lent : Lent) (ran : RanOn request lent) where
+  abbrev needed : ℕ
+  needed = cellsOf (headerIn request)
+
+  other-cell : (k : ℕ) → cellAt (cellsLeft request lent) (needed + k) ≡ cellAt (lent .cells) (needed + k)
+  other-cell k =
+      leaves request lent ran .rest (needed + k) (omega arith)
+      ∙ start-rest (headerIn request) (wordsIn request) (lent .cells) (needed + k) (omega arith)
+
+  same-length : length (drop needed (cellsLeft request lent)) ≡ length (drop needed (lent .cells))
+  same-length =
+      length-drop needed (cellsLeft request lent)
+      ∙ ap (λ (k : ℕ). k - needed) (length-after _ (startOf request lent) ∙ long request lent (inside request lent ran))
+      ∙ sym (length-drop needed (lent .cells))
+
+  other-cells : drop needed (cellsLeft request lent) ≡ drop needed (lent .cells)
+  other-cells =
+      ext-getD (pos 0) _ _ same-length
+      (λ i l. getD-drop needed (cellsLeft request lent) i (pos 0) ∙ other-cell i ∙ sym (getD-drop needed (lent .cells) i (pos 0)))
+
+  pub beyond : Beyond request lent
+  beyond =
+      let n = headerIn request .vertices in
+      let log = logOfRun request lent in
+      let size = log-long request lent ran in
+      record {
+        cells = rw (cells-are request lent ran) other-cells;
+        log =
+            rw (log-is request lent ran)
+            (drop-at log _ (logLengthOf (headerIn request)) size ∙ ap (λ (k : ℕ). drop k (lent .log)) size);
+        distances =
+            by-verdict request lent ran (λ o. drop n (o .distances) ≡ drop n (lent .distances))
+            (λ e. copied-beyond n _ (lent .distances)) (λ e. refl);
+        parents =
+            by-verdict request lent ran (λ o. drop n (o .parents) ≡ drop n (lent .parents))
+            (λ e. copied-beyond n _ (lent .parents)) (λ e. refl);
+      }

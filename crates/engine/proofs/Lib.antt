@@ -1,0 +1,10 @@
+pub mod Logs
+pub mod Left
+pub mod Taken
+pub mod Ran
+pub mod Copies
+pub mod Beyond
+pub mod Told
+pub mod Theorems
+pub mod Placed
+pub mod Answered

@@ -1,0 +1,85 @@
+-- The theorems: the demands of specs/Demands, for every request, foreign plan and lent buffer.
+-- Rests on everything below.
+use mathlib.Core.Path.{_≡_, refl, sym, _∙_}
+use mathlib.Core.Logic.{_⊎_, inl, inr}
+use mathlib.Core.List.{List}
+use Prim.Native.Nat.{ℕ}
+use native.Mathlib.Omega.{arith}
+use lib.IntN.{ℤ}
+use lib.ListN.{getD}
+use Rattle.plans.specs.Limits.{far}
+use Rattle.runner.proofs.Foreign.{refused-plan, replayed-plan, charge-plan, words-plan}
+use Rattle.requests.proofs.Within.{within}
+use Rattle.requests.proofs.Laid.{start-needed, start-rest}
+use Rattle.graph.proofs.Parents.{carried}
+use Rattle.requests.specs.Within.{headerIn, wordsIn}
+use Rattle.engine.specs.Run.{Lent, outcome}
+use Rattle.engine.specs.Network.{networkOf, namingOf}
+use Rattle.engine.specs.Demands.{Demand1, Demand2, Demand3a, Demand3, DemandPlan}
+use Rattle.engine.proofs.Ran.{allowed, leaves, by-verdict, cells-are, rounds-are, verdict-is, log-told}
+use Rattle.engine.proofs.Copies.{distance-copied, parent-copied}
+use Rattle.engine.proofs.Beyond.{beyond}
+use Rattle.engine.proofs.Told.{carried-out, planned, same-logs}
+
+-- Demand 1: runs and refusals.
+pub demand1 : (request : List ℕ) (lent : Lent) → Demand1 request lent
+unfolding outcome
+demand1 request lent =
+    record {
+      runs = within request _ _ _ _;
+      refuses = λ r e. rw e;
+      tells = λ ran.
+          by-verdict request lent ran
+          (λ o.
+          ((o .answer .number ≡ 0) × (getD (o .answer .values) 2 0 ≡ 0))
+          ⊎ ((o .answer .number ≡ 12) × (getD (o .answer .values) 2 0 ≡ 1)))
+          (λ e. inl (refl, refl)) (λ e. inr (refl, refl));
+      no-results = λ ran.
+          by-verdict request lent ran
+          (λ o. getD (o .answer .values) 2 0 ≡ 1 → (o .distances ≡ lent .distances) × (o .parents ≡ lent .parents))
+          (λ e t. absurd (omega arith)) (λ e t. (refl, refl));
+      beyond = beyond request lent;
+    }
+
+-- Demand 2: least walks.
+pub demand2 : (request : List ℕ) (lent : Lent) → Demand2 request lent
+demand2 request lent =
+    let h = headerIn request in
+    let ws = wordsIn request in
+    record {
+      cycle = λ ran. rw (verdict-is request lent ran) (leaves request lent ran .cycle);
+      no-cycle = λ ran. rw (verdict-is request lent ran) (leaves request lent ran .no-cycle);
+      shortest = λ ran t.
+          carried (networkOf h ws) (namingOf h ws) far (h .vertices) (h .source) _ _ _ _ (leaves request lent ran .below)
+          (allowed request lent ran .source-there) (distance-copied request lent ran t) (parent-copied request lent ran t)
+          (leaves request lent ran .shortest (sym (verdict-is request lent ran) ∙ t));
+    }
+
+-- Demand 3: what the log tells, of two runs and of one.
+pub demand3a : Demand3a
+demand3a = same-logs
+
+pub demand3 : (request : List ℕ) (lent : Lent) → Demand3 request lent
+demand3 request lent =
+    let h = headerIn request in
+    let ws = wordsIn request in
+    record {
+      carried-out = carried-out request lent;
+      charged = λ ran. rw (log-told request lent ran) (rounds-are request lent ran);
+      planned = planned request lent;
+      laid-cells = λ ran. start-needed h ws (lent .cells);
+      lent-cells = λ ran. start-rest h ws (lent .cells);
+      copied-distances = λ ran t v l. rw (cells-are request lent ran) (distance-copied request lent ran t v l);
+      copied-parents = λ ran t v l. rw (cells-are request lent ran) (parent-copied request lent ran t v l);
+      exact = λ ran. leaves request lent ran .exact;
+    }
+
+-- Foreign plans: demands 1 and 3 of the runner.
+pub demandPlan : (plan : List ℕ) (cells : List ℤ) (log : List ℕ) → DemandPlan plan cells log
+demandPlan plan cells log =
+    record {
+      refuses = refused-plan plan cells log;
+      carried-out = replayed-plan plan cells log;
+      charged = charge-plan plan cells log;
+      planned = words-plan plan cells log;
+    }

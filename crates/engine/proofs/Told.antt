@@ -1,0 +1,83 @@
+-- What the log of a run tells, and what the logs of two runs do.
+-- Rests on the log of a run and on the machine's laws of logs.
+use mathlib.Core.Path.{_≡_, refl, sym, ap, _∙_}
+use mathlib.Core.Logic.{_↔_}
+use mathlib.Core.List.{List, [], _∷_, _++_, append-cancel-left}
+use mathlib.Core.Option.{some}
+use Prim.Native.Nat.{ℕ, _≤_}
+use native.Mathlib.Omega.{arith}
+use lib.ListN.{length, getD}
+use Rattle.machine.specs.Log.{replay, wordsOf}
+use Rattle.machine.proofs.Replayed.{replay-log, words-log}
+use Rattle.plans.specs.declared.Header.{Header}
+use Rattle.plans.specs.Plan.{Accepted, cellsOf, planOf}
+use Rattle.plans.proofs.Headers.{by-method}
+use Rattle.plans.proofs.Addresses.{admitted-plan}
+use Rattle.plans.proofs.Same.{same-plan}
+use Rattle.requests.specs.Within.{headerIn}
+use Rattle.engine.specs.Run.{Lent, startOf, outcome}
+use Rattle.engine.specs.Demands.{RanOn, verdictTold, logTold, SamePublic}
+use Rattle.engine.proofs.Logs.{published}
+use Rattle.engine.proofs.Taken.{long}
+use Rattle.engine.proofs.Ran.{inside, allowed, cells-are, log-told, log-published}
+
+-- ---- one run
+
+module _ (request : List ℕ) (lent : Lent) (ran : RanOn request lent) where
+  pub carried-out : replay (logTold request lent) (startOf request lent) ≡ some (outcome request lent .cells)
+  carried-out =
+      let h = headerIn request in
+      let start = startOf request lent in
+      let w = inside request lent ran in
+      let room : cellsOf h ≤ length start = rw (long request lent w) (w .cells-enough) in
+      rw (log-told request lent ran, cells-are request lent ran)
+      (replay-log (planOf h) start (admitted-plan h (allowed request lent ran) (length start) room))
+
+  pub planned : wordsOf (logTold request lent) ≡ planOf (headerIn request)
+  planned = rw (log-told request lent ran) (words-log (planOf (headerIn request)) (startOf request lent))
+
+-- ---- two runs
+
+-- The published words are the same just where the words are that method 1 publishes.
+same-published : (h : Header) → Accepted h → (v v′ : ℕ) → (h .method ≡ 1 → v ≡ v′) ↔ (published h v ≡ published h v′)
+same-published =
+    by-method (λ h. (v v′ : ℕ) → (h .method ≡ 1 → v ≡ v′) ↔ (published h v ≡ published h v′))
+    (λ n m source a v v′. (
+      λ f. ap (λ (w : ℕ). w ∷ []) (f refl),
+      λ (e : v ∷ [] ≡ v′ ∷ []) one. ap (λ ws. getD ws 0 0) e,
+    ))
+    (λ n source a v v′. (λ f. refl, λ e (one : _≡_ {A = ℕ} 2 1). omega arith))
+
+-- Logs of accepted headers, as plans with published words.
+module _ (g h : Header) (v v′ : ℕ) (b : Accepted h) (e : g ≡ h) where
+  alike : (g .method ≡ 1 → v ≡ v′) → planOf g ++ published g v ≡ planOf h ++ published h v′
+  alike f = rw e (ap (λ l. planOf h ++ l) (same-published h b v v′ .0 (rw e at f)))
+
+  told-apart : planOf g ++ published g v ≡ planOf h ++ published h v′ → g .method ≡ 1 → v ≡ v′
+  told-apart q one = same-published h b v v′ .1 (append-cancel-left (planOf h) _ _ (rw e at q)) (rw e at one)
+
+pub same-logs : (request request′ : List ℕ) (lent lent′ : Lent) → RanOn request lent → RanOn request′ lent′
+    → (logTold request lent ≡ logTold request′ lent′) ↔ SamePublic request lent request′ lent′
+same-logs request request′ lent lent′ ran ran′ =
+    let g = headerIn request in
+    let h = headerIn request′ in
+    let v = verdictTold request lent in
+    let v′ = verdictTold request′ lent′ in
+    let b = allowed request′ lent′ ran′ in
+    let log = log-published request lent ran in
+    let log′ = log-published request′ lent′ ran′ in (
+      λ (e : logTold request lent ≡ logTold request′ lent′).
+          let q : g ≡ h =
+          same-plan g h (allowed request lent ran) b .0
+          (sym (planned request lent ran) ∙ ap wordsOf e ∙ planned request′ lent′ ran′) in
+          record {
+            method = ap (λ k. k .method) q;
+            vertices = ap (λ k. k .vertices) q;
+            edges = ap (λ k. k .edges) q;
+            source = ap (λ k. k .source) q;
+            verdict = told-apart g h v v′ b q (sym log ∙ e ∙ log′);
+          },
+      λ s.
+          let q : g ≡ h = λ i. record { method = s .method i; vertices = s .vertices i; edges = s .edges i; source = s .source i } in
+          log ∙ alike g h v v′ b q (s .verdict) ∙ sym log′,
+    )

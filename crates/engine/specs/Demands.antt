@@ -1,0 +1,134 @@
+-- The three demands, about the very definitions that the contracts of `run` and `run_plan` cite: for every request, foreign plan and lent
+-- buffer, nothing assumed of their words. Rests on everything below; the proofs are in proofs/.
+use mathlib.Core.Path.{_≡_}
+use mathlib.Core.Logic.{_↔_, _⊎_}
+use mathlib.Core.List.{List}
+use mathlib.Core.Option.{none, some}
+use Prim.Native.Nat.{ℕ, _<_, _≤_}
+use lib.IntN.{ℤ, pos}
+use lib.ListN.{length, getD, take, drop}
+use Rattle.machine.specs.Effect.{cellAt}
+use Rattle.machine.specs.Log.{replay, wordsOf, chargeOf}
+use Rattle.plans.specs.Limits.{far}
+use Rattle.plans.specs.Plan.{cellsOf, instructionsOf, planOf}
+use Rattle.planner.specs.declared.Refusal.{Refusal}
+use Rattle.planner.specs.Refusal.{refused}
+use Rattle.runner.specs.Runner.{runnerRefusal, planOutcome}
+use Rattle.requests.specs.Refusal.{logLengthOf}
+use Rattle.requests.specs.Within.{headerIn, wordsIn, Within}
+use Rattle.requests.specs.Intake.{sourceOf, laid, distanceCell, parentCell}
+use Rattle.graph.specs.Walk.{NegativeCycle}
+use Rattle.graph.specs.Shortest.{Shortest}
+use Rattle.methods.specs.Bank.{Exact}
+use Rattle.engine.specs.Run.{Lent, refusalOf, startOf, outcome}
+use Rattle.engine.specs.Network.{networkOf, namingOf}
+
+-- A request ran when it met no refusal, or 12 alone; 12 is told after the run.
+abbrev pub RanOn : (request : List ℕ) → Lent → Type 0
+RanOn request lent = refusalOf request lent ≡ none
+
+-- What was told: rounds, log length and verdict; and the log, that many words from the start of the log buffer.
+module _ (request : List ℕ) (lent : Lent) where
+  abbrev pub roundsTold : ℕ
+  roundsTold = getD (outcome request lent .answer .values) 0 0
+
+  abbrev pub lengthTold : ℕ
+  lengthTold = getD (outcome request lent .answer .values) 1 0
+
+  abbrev pub verdictTold : ℕ
+  verdictTold = getD (outcome request lent .answer .values) 2 0
+
+  abbrev pub logTold : List ℕ
+  logTold = take lengthTold (outcome request lent .log)
+
+-- ---- demand 1: runs and refusals
+
+-- What lies beyond the needed parts is as it was lent.
+pub record Beyond (request : List ℕ) (lent : Lent) : Type 0 where
+  pub cells : drop (cellsOf (headerIn request)) (outcome request lent .cells)
+      ≡ drop (cellsOf (headerIn request)) (lent .cells)
+  pub log : drop (logLengthOf (headerIn request)) (outcome request lent .log)
+      ≡ drop (logLengthOf (headerIn request)) (lent .log)
+  pub distances : drop (headerIn request .vertices) (outcome request lent .distances)
+      ≡ drop (headerIn request .vertices) (lent .distances)
+  pub parents : drop (headerIn request .vertices) (outcome request lent .parents)
+      ≡ drop (headerIn request .vertices) (lent .parents)
+
+pub record Demand1 (request : List ℕ) (lent : Lent) : Type 0 where
+  -- Every request within the limits is run to its end, and no other.
+  pub runs : RanOn request lent
+      ↔ Within request (length (lent .cells)) (length (lent .log)) (length (lent .distances)) (length (lent .parents))
+  -- Every other gets its number and, where there is one, its place, and changes no lent buffer.
+  pub refuses : (r : Refusal) → refusalOf request lent ≡ some r
+      → outcome request lent
+      ≡ record { answer = refused r; cells = lent .cells; log = lent .log; distances = lent .distances; parents = lent .parents }
+  -- A run is told by 0 or, with verdict 1, by 12, with rounds, log length and verdict.
+  pub tells : RanOn request lent
+      → ((outcome request lent .answer .number ≡ 0) × (verdictTold request lent ≡ 0))
+      ⊎ ((outcome request lent .answer .number ≡ 12) × (verdictTold request lent ≡ 1))
+  -- A negative cycle leaves cells and log, and no results.
+  pub no-results : RanOn request lent → verdictTold request lent ≡ 1
+      → (outcome request lent .distances ≡ lent .distances) × (outcome request lent .parents ≡ lent .parents)
+  pub beyond : RanOn request lent → Beyond request lent
+
+-- ---- demand 2: least walks
+
+pub record Demand2 (request : List ℕ) (lent : Lent) : Type 0 where
+  pub cycle : RanOn request lent
+      → (verdictTold request lent ≡ 1)
+      ↔ NegativeCycle (networkOf (headerIn request) (wordsIn request)) (headerIn request .source)
+  pub no-cycle : RanOn request lent
+      → (verdictTold request lent ≡ 0)
+      ↔ ¬ NegativeCycle (networkOf (headerIn request) (wordsIn request)) (headerIn request .source)
+  -- Of the results buffers: least totals over all walks, FAR exactly where none leads, parents on least walks that lead back to the source.
+  pub shortest : RanOn request lent → verdictTold request lent ≡ 0
+      → Shortest (networkOf (headerIn request) (wordsIn request)) (namingOf (headerIn request) (wordsIn request)) far
+      (headerIn request .vertices) (headerIn request .source)
+      (λ v. getD (outcome request lent .distances) v (pos 0)) (λ v. getD (outcome request lent .parents) v (pos 0))
+
+-- ---- demand 3: what the log tells
+
+-- What is public of two runs is the same: method, vertices, the header's edges, source and, in method 1, the verdict.
+pub record SamePublic (request : List ℕ) (lent : Lent) (request′ : List ℕ) (lent′ : Lent) : Type 0 where
+  pub method : headerIn request .method ≡ headerIn request′ .method
+  pub vertices : headerIn request .vertices ≡ headerIn request′ .vertices
+  pub edges : headerIn request .edges ≡ headerIn request′ .edges
+  pub source : headerIn request .source ≡ headerIn request′ .source
+  pub verdict : headerIn request .method ≡ 1 → verdictTold request lent ≡ verdictTold request′ lent′
+
+-- (a) For any two requests that ran, whatever their private words and lent buffers: the logs are equal exactly when that is the same.
+abbrev pub Demand3a : Type 0
+Demand3a = (request request′ : List ℕ) (lent lent′ : Lent) → RanOn request lent → RanOn request′ lent′
+    → (logTold request lent ≡ logTold request′ lent′) ↔ SamePublic request lent request′ lent′
+
+pub record Demand3 (request : List ℕ) (lent : Lent) : Type 0 where
+  -- (b) The log alone, carried out from the starting cells, leaves what the run left, every lent cell; the rounds are the log's charge.
+  pub carried-out : RanOn request lent → replay (logTold request lent) (startOf request lent) ≡ some (outcome request lent .cells)
+  pub charged : RanOn request lent → roundsTold request lent ≡ chargeOf (logTold request lent)
+  -- (c) The log without its published words is the plan of the header, whichever the verdict.
+  pub planned : RanOn request lent → wordsOf (logTold request lent) ≡ planOf (headerIn request)
+  -- (d) Each needed cell starts with one field of a word or 0, as the header says; the others as lent. Results are copies of cells left.
+  pub laid-cells : RanOn request lent → (k : ℕ) → k < cellsOf (headerIn request)
+      → cellAt (startOf request lent) k ≡ laid (wordsIn request) (sourceOf (headerIn request) k)
+  pub lent-cells : RanOn request lent → (k : ℕ) → cellsOf (headerIn request) ≤ k
+      → cellAt (startOf request lent) k ≡ cellAt (lent .cells) k
+  pub copied-distances : RanOn request lent → verdictTold request lent ≡ 0 → (v : ℕ) → v < headerIn request .vertices
+      → getD (outcome request lent .distances) v (pos 0) ≡ cellAt (outcome request lent .cells) (distanceCell (headerIn request) v)
+  pub copied-parents : RanOn request lent → verdictTold request lent ≡ 0 → (v : ℕ) → v < headerIn request .vertices
+      → getD (outcome request lent .parents) v (pos 0) ≡ cellAt (outcome request lent .cells) (parentCell (headerIn request) v)
+  -- (e) Every ADD that is carried out gives the exact sum.
+  pub exact : RanOn request lent → Exact (instructionsOf (headerIn request)) (startOf request lent)
+
+-- ---- foreign plans: demands 1 and 3 of the runner
+
+pub record DemandPlan (plan : List ℕ) (cells : List ℤ) (log : List ℕ) : Type 0 where
+  pub refuses : (r : Refusal) → runnerRefusal plan (length cells) (length log) ≡ some r
+      → planOutcome plan cells log ≡ record { answer = refused r; cells = cells; log = log }
+  pub carried-out : runnerRefusal plan (length cells) (length log) ≡ none
+      → replay (take (getD (planOutcome plan cells log .answer .values) 1 0) (planOutcome plan cells log .log)) cells
+      ≡ some (planOutcome plan cells log .cells)
+  pub charged : runnerRefusal plan (length cells) (length log) ≡ none
+      → getD (planOutcome plan cells log .answer .values) 0 0
+      ≡ chargeOf (take (getD (planOutcome plan cells log .answer .values) 1 0) (planOutcome plan cells log .log))
+  pub planned : runnerRefusal plan (length cells) (length log) ≡ none
+      → wordsOf (take (getD (planOutcome plan cells log .answer .values) 1 0) (planOutcome plan cells log .log)) ≡ plan

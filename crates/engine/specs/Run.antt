@@ -1,0 +1,117 @@
+-- What a request's run answers, and what it leaves in each lent buffer. Rests on requests, plans and logs.
+use mathlib.Core.Path.{_≡_}
+use mathlib.Core.Bool.{cond}
+use mathlib.Core.List.{List, [], _∷_}
+use mathlib.Core.Option.{Option, none, some}
+use Prim.Native.Nat.{ℕ, zero, suc}
+use lib.IntN.{ℤ}
+use lib.ListN.{length, drop}
+use Rattle.machine.specs.Effect.{isZero, cellAt}
+use Rattle.machine.specs.Log.{cellsAfter, logOf, chargeOf}
+use Rattle.plans.specs.declared.Header.{Header}
+use Rattle.plans.specs.Limits.{byMethod}
+use Rattle.plans.specs.Method1 as Method1
+use Rattle.plans.specs.Plan.{planOf}
+use Rattle.planner.specs.declared.Refusal.{Refusal}
+use Rattle.planner.specs.Refusal.{Told, refused}
+use Rattle.planner.specs.Written.{overwritten}
+use Rattle.requests.specs.Refusal.{requestRefusal}
+use Rattle.requests.specs.Intake.{copied, startingCells, distanceCell, parentCell}
+use Rattle.requests.specs.Within.{headerIn, wordsIn}
+use Rattle.engine.specs.declared.Report.{Report}
+use Rattle.engine.specs.declared.Answer.{Answer}
+use Rattle.engine.specs.declared.Answer.the-variants.{Ran, NegativeCycle, Refused}
+
+-- ---- answers
+
+-- The values of a run: rounds, log length, verdict.
+abbrev pub valuesOf : Report → List ℕ
+valuesOf r = r .rounds ∷ r .«log_length» ∷ r .verdict ∷ []
+
+-- What an answer says, in document 01's number, place and values.
+abbrev pub told : Answer → Told
+told (Ran r) = record { number = 0; place = none; values = valuesOf r }
+told (NegativeCycle r) = record { number = 12; place = none; values = valuesOf r }
+told (Refused r) = refused r
+
+-- ---- the request and what is lent
+
+pub record Lent : Type 0 where
+  pub cells : List ℤ
+  pub log : List ℕ
+  pub distances : List ℤ
+  pub parents : List ℤ
+
+abbrev pub refusalOf : (request : List ℕ) → Lent → Option Refusal
+refusalOf request lent =
+    requestRefusal request (length (lent .cells)) (length (lent .log)) (length (lent .distances)) (length (lent .parents))
+
+-- ---- the run
+
+-- The verdict that the cells hold: the flag at X+7 in method 1; method 2 opens nothing.
+unfoldable pub verdictOf : Header → List ℤ → ℕ
+verdictOf h left =
+    byMethod (h .method) 0 (cond (isZero (cellAt left (Method1.places (h .vertices) (h .edges) .X 7))) 0 1 ∷ 0 ∷ [])
+
+module _ (request : List ℕ) (lent : Lent) where
+  -- The cells that the run starts from, its log, and the cells that it leaves.
+  abbrev pub startOf : List ℤ
+  startOf = startingCells (headerIn request) (wordsIn request) (lent .cells)
+
+  abbrev pub logOfRun : List ℕ
+  logOfRun = logOf (planOf (headerIn request)) startOf
+
+  abbrev pub cellsLeft : List ℤ
+  cellsLeft = cellsAfter (drop 1 (planOf (headerIn request))) startOf
+
+  abbrev pub verdictOfRun : ℕ
+  verdictOfRun = verdictOf (headerIn request) cellsLeft
+
+-- ---- the outcome: the answer and the four buffers
+
+pub record Outcome : Type 0 where
+  pub answer : Told
+  pub cells : List ℤ
+  pub log : List ℕ
+  pub distances : List ℤ
+  pub parents : List ℤ
+
+-- By the verdict: with none the results are copies of cells at places that the header fixes; with a negative cycle there are none, and 12.
+abbrev pub ranBy : (verdict : ℕ) (request : List ℕ) → Lent → Outcome
+ranBy zero request lent =
+    record {
+      answer = record { number = 0; place = none; values = chargeOf (logOfRun request lent) ∷ length (logOfRun request lent) ∷ 0 ∷ [] };
+      cells = cellsLeft request lent;
+      log = overwritten (logOfRun request lent) (lent .log);
+      distances =
+          copied (headerIn request .vertices)
+          (λ v. cellAt (cellsLeft request lent) (distanceCell (headerIn request) v)) (lent .distances);
+      parents =
+          copied (headerIn request .vertices)
+          (λ v. cellAt (cellsLeft request lent) (parentCell (headerIn request) v)) (lent .parents);
+    }
+ranBy (suc more) request lent =
+    record {
+      answer = record { number = 12; place = none; values = chargeOf (logOfRun request lent) ∷ length (logOfRun request lent) ∷ 1 ∷ [] };
+      cells = cellsLeft request lent;
+      log = overwritten (logOfRun request lent) (lent .log);
+      distances = lent .distances;
+      parents = lent .parents;
+    }
+
+-- By the refusal met: none but 12 changes a buffer.
+abbrev pub outcomeBy : Option Refusal → (request : List ℕ) → Lent → Outcome
+outcomeBy none request lent = ranBy (verdictOfRun request lent) request lent
+outcomeBy (some r) request lent =
+    record { answer = refused r; cells = lent .cells; log = lent .log; distances = lent .distances; parents = lent .parents }
+
+unfoldable pub outcome : (request : List ℕ) → Lent → Outcome
+outcome request lent = outcomeBy (refusalOf request lent) request lent
+
+-- The answer and the four buffers are the outcome's.
+pub record Met (o : Outcome) (answer : Answer) (cells : List ℤ) (log : List ℕ) (distances parents : List ℤ) : Type 0 where
+  pub answers : told answer ≡ o .answer
+  pub cells-left : cells ≡ o .cells
+  pub log-left : log ≡ o .log
+  pub distances-left : distances ≡ o .distances
+  pub parents-left : parents ≡ o .parents

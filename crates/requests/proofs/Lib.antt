@@ -1,0 +1,6 @@
+pub mod Sizes
+pub mod Words
+pub mod Order
+pub mod Copied
+pub mod Laid
+pub mod Within

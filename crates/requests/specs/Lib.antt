@@ -1,0 +1,4 @@
+pub mod Word
+pub mod Refusal
+pub mod Intake
+pub mod Within

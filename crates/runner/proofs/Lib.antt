@@ -1,0 +1,5 @@
+pub mod Sized
+pub mod Lowest
+pub mod Turn
+pub mod Foreign
+pub mod Answered

@@ -1,0 +1,146 @@
+-- The loop that carries a plan's words out and logs them, wherever the words come from: its invariant and its laws.
+-- Rests on planner's Filled, machine's Carried and Sized.
+use mathlib.Core.Path.{_≡_, refl, sym, ap, _∙_}
+use mathlib.Core.List.{List, [], _∷_, _++_}
+use Prim.Native.Nat.{ℕ, suc, _+_, _*_, _<_, _≤_}
+use native.Mathlib.Nat.{add-zero, zero-add, add-suc, suc-add}
+use native.Mathlib.Omega.{arith}
+use lib.Dec.{T}
+use lib.IntN.{ℤ}
+use lib.ListN.{length, getD, set, drop, length-set, length-append, drop-of-length-le}
+use lib.Seq.{sets, length-sets}
+use Rattle.machine.specs.Word.{admissible}
+use Rattle.machine.specs.Log.{carried, logged, Admitted, cellsAfter, logFrom, logOf, total, roundsOf}
+use Rattle.machine.proofs.Carried.{length-carried}
+use Rattle.planner.proofs.Filled.{next, from-start}
+use Rattle.planner.specs.Written.{overwritten}
+use Rattle.runner.proofs.Sized.{total-next, total-end}
+
+sets-append : (log : List ℕ) (at : ℕ) (xs ys : List ℕ) → sets log at (xs ++ ys) ≡ sets (sets log at xs) (at + length xs) ys
+sets-append log at [] ys = ap (λ (i : ℕ). sets log i ys) (sym (add-zero at))
+sets-append log at (x ∷ xs) ys =
+    sets-append (set log at x) (suc at) xs ys
+    ∙ ap (λ (i : ℕ). sets (sets (set log at x) (suc at) xs) i ys) (suc-add at (length xs) ∙ sym (add-suc at (length xs)))
+
+-- Before the word at place k: what is left of the plan makes of the cells, the log, its place and the rounds what all of it makes of those
+-- at the start, where the log has the header already.
+pub record Turn (plan : List ℕ) (cells₀ : List ℤ) (log₀ : List ℕ) (cells : List ℤ) (log : List ℕ) (at rounds k : ℕ) : Type 0 where
+  pub admits : Admitted (length cells₀) (drop k plan)
+  pub count : length cells ≡ length cells₀
+  pub long : length log ≡ length log₀
+  pub room : at + length (logFrom (drop k plan) cells) ≤ length log
+  pub leaves : cellsAfter (drop k plan) cells ≡ cellsAfter (drop 1 plan) cells₀
+  pub writes : sets log at (logFrom (drop k plan) cells) ≡ sets log₀ 1 (logFrom (drop 1 plan) cells₀)
+  pub ends : at + length (logFrom (drop k plan) cells) ≡ 1 + length (logFrom (drop 1 plan) cells₀)
+  pub charges : rounds + total roundsOf (drop k plan) ≡ total roundsOf (drop 1 plan)
+  pub few : rounds ≤ 6 * k
+
+-- ---- the header
+
+-- The log of a plan with a header w.
+pub plan-log : (plan : List ℕ) (cells : List ℤ) (w : ℕ) → 0 < length plan → w ≡ getD plan 0 0
+    → logOf plan cells ≡ w ∷ logFrom (drop 1 plan) cells
+unfolding logOf
+plan-log [] cells w h e = let no : ⊥ = omega arith in absurd no
+plan-log (x ∷ ws) cells w h e = rw e
+
+-- Room for the log is room for the header.
+pub has-header : (plan : List ℕ) (cells : List ℤ) (log : List ℕ) → 0 < length plan → length (logOf plan cells) ≤ length log → 0 < length log
+has-header plan cells log h r = omega (arith, ap length (plan-log plan cells _ h refl))
+
+pub start : (plan : List ℕ) (cells : List ℤ) (log : List ℕ) (w : ℕ) → 0 < length plan → w ≡ getD plan 0 0
+    → Admitted (length cells) (drop 1 plan) → length (logOf plan cells) ≤ length log
+    → Turn plan cells (set log 0 w) cells (set log 0 w) 1 0 1
+start plan cells log w h is a r =
+    record {
+      admits = a;
+      count = refl;
+      long = refl;
+      room = omega (arith, ap length (plan-log plan cells w h is), length-set log 0 w);
+      leaves = refl;
+      writes = refl;
+      ends = refl;
+      charges = zero-add _;
+      few = omega arith;
+    }
+
+-- ---- a word
+
+module _ {plan : List ℕ} {cells₀ : List ℤ} {log₀ : List ℕ} {cells : List ℤ} {log : List ℕ} {at rounds k : ℕ}
+    (t : Turn plan cells₀ log₀ cells log at rounds k) (h : k < length plan) (w : ℕ) (is : w ≡ getD plan k 0) where
+  off : drop k plan ≡ w ∷ drop (k + 1) plan
+  off = rw is (next plan k 0 h)
+
+  split : logFrom (drop k plan) cells ≡ logged w cells ++ logFrom (drop (k + 1) plan) (carried w cells)
+  unfolding logFrom
+  split = ap (λ (ws : List ℕ). logFrom ws cells) off
+
+  whole : length (logFrom (drop k plan) cells)
+      ≡ length (logged w cells) + length (logFrom (drop (k + 1) plan) (carried w cells))
+  whole = ap length split ∙ length-append (logged w cells) _
+
+  both : T (admissible (length cells₀) w) × Admitted (length cells₀) (drop (k + 1) plan)
+  both = rw off at (t .admits)
+
+  pub can : T (admissible (length cells) w)
+  can = rw (t .count) (both .0)
+
+  pub fits : at + length (logged w cells) ≤ length log
+  fits = omega (arith, whole)
+
+  pub again : (cells′ : List ℤ) (log′ : List ℕ) (at′ cost : ℕ) → cells′ ≡ carried w cells
+      → (at′ ≡ at + length (logged w cells)) × (log′ ≡ sets log at (logged w cells))
+      → (cost ≡ roundsOf w) × (cost ≤ 6)
+      → Turn plan cells₀ log₀ cells′ log′ at′ (rounds + cost) (k + 1)
+  unfolding cellsAfter
+  again cells′ log′ at′ cost c l r =
+      let s : length log′ ≡ length log = ap length (l .1) ∙ length-sets log at (logged w cells) in
+      let n = total-next roundsOf plan k h in
+      let u : roundsOf (getD plan k 0) ≡ cost = sym (r .0 ∙ ap roundsOf is) in
+      record {
+        admits = both .1;
+        count = ap length c ∙ length-carried w cells ∙ t .count;
+        long = s ∙ t .long;
+        room = rw c (omega (arith, whole));
+        leaves = rw c (sym (ap (λ (ws : List ℕ). cellsAfter ws cells) off) ∙ t .leaves);
+        writes =
+            rw (c, l .1, l .0)
+            (sym (sets-append log at (logged w cells) _) ∙ ap (sets log at) (sym split) ∙ t .writes);
+        ends = rw c (omega (arith, whole));
+        charges = omega arith;
+        few = omega arith;
+      }
+
+-- ---- after the last word
+
+-- The plan is carried out.
+pub record CarriedOut (plan : List ℕ) (cells₀ : List ℤ) (log₀ : List ℕ) (cells : List ℤ) (log : List ℕ) (at rounds : ℕ) : Type 0 where
+  pub leaves : cells ≡ cellsAfter (drop 1 plan) cells₀
+  pub writes : log ≡ overwritten (logOf plan cells₀) log₀
+  pub ends : at ≡ length (logOf plan cells₀)
+  pub charges : rounds ≡ total roundsOf (drop 1 plan)
+
+pub done : {plan : List ℕ} {cells₀ : List ℤ} {log₀ : List ℕ} {cells : List ℤ} {log : List ℕ} {at rounds k : ℕ} (w : ℕ)
+    → Turn plan cells₀ (set log₀ 0 w) cells log at rounds k → 0 < length plan → w ≡ getD plan 0 0 → length plan ≤ k
+    → CarriedOut plan cells₀ log₀ cells log at rounds
+unfolding cellsAfter logFrom
+done {plan} {cells₀} {log₀} {cells} {log} {at} {rounds} {k} w t h is e =
+    let n = drop-of-length-le plan e in
+    let l = plan-log plan cells₀ w h is in
+    let z : length (logFrom (drop k plan) cells) ≡ 0 = ap (λ (ws : List ℕ). length (logFrom ws cells)) n in
+    record {
+      leaves = sym (ap (λ (ws : List ℕ). cellsAfter ws cells) n) ∙ t .leaves;
+      writes =
+          sym (ap (λ (ws : List ℕ). sets log at (logFrom ws cells)) n)
+          ∙ t .writes
+          ∙ ap (sets log₀ 0) (sym l)
+          ∙ from-start (logOf plan cells₀) log₀ (omega (arith, ap length l, length-set log₀ 0 w));
+      ends = omega (arith, ap length l);
+      charges = omega (arith, total-end roundsOf plan k e);
+    }
+
+-- A plan without a header.
+pub no-words : (plan : List ℕ) (cells : List ℤ) (log : List ℕ) → length plan ≡ 0 → CarriedOut plan cells log cells log 0 0
+unfolding cellsAfter logOf total
+no-words [] cells log e = record { leaves = refl; writes = refl; ends = refl; charges = refl }
+no-words (h ∷ ws) cells log e = let no : ⊥ = omega arith in absurd no

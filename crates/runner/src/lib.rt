@@ -1,0 +1,107 @@
+// The runner: a plan from outside, carried out on lent cells and logged.
+// Rests on planner (refusals) and machine.
+use planner::Refusal;
+ghost use mathlib.Core.Path.{_≡_};
+ghost use Prim.Native.Nat.{_≤_};
+ghost use lib.ListN.{length, drop};
+ghost use Rattle.machine.specs.Log.{Admitted, cellsAfter, logOf, total, roundsOf};
+ghost use Rattle.planner.specs.Written.{overwritten};
+ghost use Rattle.runner.specs.Runner.{badAt, firstBad, foundOf, logSize, planOutcome, MetPlan};
+
+// What a run answers: its rounds, and the words of its log.
+pub struct Tally {
+    pub rounds: u64,
+    pub length: usize,
+}
+
+pub enum PlanAnswer {
+    Ran(Tally),
+    Refused(Refusal),
+}
+
+pub enum Found {
+    At(usize),
+    Nothing,
+}
+
+// The first place that no plan has.
+const PLACES: usize = 16777216;
+
+// Whether a word at a place is one that a bank of `count` cells cannot carry out, or lies past the last place.
+fn bad(word: u64, place: usize, count: usize) -> bool
+    ensures { λ r. ⌜ r ≡ badAt count place word ⌝ }
+{
+    if PLACES <= place {
+        return true;
+    }
+    !machine::admits(word, count)
+}
+
+// The lowest bad place; the header is not tested.
+fn first_bad(plan: &[u64], count: usize) -> Found
+    ensures { λ r. ⌜ r ≡ foundOf (firstBad count 1 (drop 1 (now (plan .entry)))) ⌝ }
+{
+    let mut place: usize = 1;
+    while place < plan.len() {
+        if bad(plan[place], place, count) {
+            return Found::At(place);
+        }
+        place += 1;
+    }
+    Found::Nothing
+}
+
+// How many words the log of a plan has.
+fn log_length(plan: &[u64]) -> usize
+    ensures { λ r. ⌜ r ≡ logSize (now (plan .entry)) ⌝ }
+{
+    let mut size = plan.len();
+    let mut j: usize = 1;
+    while j < plan.len() {
+        if fields::field(plan[j], 60, 4) == machine::OPEN {
+            size += 1;
+        }
+        j += 1;
+    }
+    size
+}
+
+// The plan's operation words carried out in order, each once, and logged; the rounds.
+fn carry_plan(plan: &[u64], cells: &mut [i64], log: &mut [u64]) -> u64
+    requires { ⌜ Admitted (length (now cells)) (drop 1 (now plan)) × (length (logOf (now plan) (now cells)) ≤ length (now log)) ⌝ }
+    ensures { λ r. ⌜ (r ≡ total roundsOf (drop 1 (now (plan .entry)))) × (now (cells .exit) ≡ cellsAfter (drop 1 (now (plan .entry))) (now (cells .entry))) × (now (log .exit) ≡ overwritten (logOf (now (plan .entry)) (now (cells .entry))) (now (log .entry))) ⌝ }
+{
+    let mut rounds: u64 = 0;
+    if plan.len() == 0 {
+        return rounds;
+    }
+    log[0] = plan[0];
+    let mut at: usize = 1;
+    let mut k: usize = 1;
+    while k < plan.len() {
+        let word = plan[k];
+        at = machine::append(cells, log, at, word);
+        machine::step(cells, word);
+        rounds += machine::cost(word);
+        k += 1;
+    }
+    rounds
+}
+
+// A foreign plan run: refusal 9 with the lowest place, then 7; refused, the buffers stay.
+pub fn run_plan(plan: &[u64], cells: &mut [i64], log: &mut [u64]) -> PlanAnswer
+    ensures { λ r. ⌜ MetPlan (planOutcome (now (plan .entry)) (now (cells .entry)) (now (log .entry))) r (now (cells .exit)) (now (log .exit)) ⌝ }
+{
+    if let Found::At(place) = first_bad(plan, cells.len()) {
+        return PlanAnswer::Refused(Refusal::Operation(place));
+    }
+    let size = log_length(plan);
+    if log.len() < size {
+        return PlanAnswer::Refused(Refusal::Log);
+    }
+    let rounds = carry_plan(plan, cells, log);
+    PlanAnswer::Ran(Tally {
+        rounds,
+        length: size,
+    })
+}
