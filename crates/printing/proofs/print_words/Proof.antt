@@ -1,18 +1,20 @@
--- `example::show` is safe and ends: each word is shown once. Rests on nothing.
+-- `printing::print_words` is safe and ends: each word has one line. Rests on nothing.
 use Prim.Native.Nat.{_≤_, _-_}
 use borrow.Author.Needs.{needs}
-use lib.ListN.{length}
-use Rattle.example.proofs.show.Statement.{statement}
-use Rattle.example.proofs.show.Tie as tie
+use Rattle.printing.proofs.print_words.Statement.{statement}
+use Rattle.printing.proofs.print_words.Tie as tie
 
 abbrev Inv-loop : tie.InvT-loop
-Inv-loop words i₀ t3 i = i ≤ length words
+Inv-loop fd words count i₀ t5 i = i ≤ count
 
 abbrev μ-loop : tie.MeasureT-loop
-μ-loop words i₀ t3 i = length words - i
+μ-loop fd words count i₀ t5 i = count - i
 
 loop-holds : tie.Need-loop-holds Inv-loop μ-loop
 loop-holds c = search needs
+
+returns : tie.Need-returns Inv-loop μ-loop
+returns c = search needs
 
 mul-print-hex : tie.Need-mul-print-hex Inv-loop μ-loop
 mul-print-hex c = search needs
@@ -38,16 +40,17 @@ loop-less c = search needs
 loop-again : tie.Need-loop-again Inv-loop μ-loop
 loop-again c = search needs
 
-returns : tie.Need-returns Inv-loop μ-loop
-returns c = search needs
+returns-2 : tie.Need-returns-2 Inv-loop μ-loop
+returns-2 c = search needs
 
-pub show-spec : {M : Type 1} → statement M
-show-spec =
+pub print-words-spec : {M : Type 1} → statement M
+print-words-spec =
     tie.close
     (tie.spec
     Inv-loop
     μ-loop
     loop-holds
+    returns
     mul-print-hex
     shared-slice-read-print-hex
     print-hex-requires
@@ -56,4 +59,4 @@ show-spec =
     add-i
     loop-less
     loop-again
-    returns)
+    returns-2)

@@ -1,0 +1,205 @@
+// Requests through the desk's program: every refusal it can print, and runs of both methods, each under its name.
+// Rests on printing.
+use libc::STDOUT_FILENO;
+use printing::Part;
+ghost use Prim.Native.Nat.{_*_, _≤_};
+ghost use lib.ListN.{length};
+
+// Answers the first `size` bytes of `words`, as standard input brings them.
+fn send(name: &[u8], words: &[u64], size: usize)
+    requires { ⌜ (size ≤ 8 * length (now words)) × (size ≤ 8208) ⌝ }
+{
+    let mut bytes = [0u8; 8208];
+    let mut i: usize = 0;
+    while i < size {
+        bytes[i] = fields::field(words[i / 8], 56 - 8 * (i % 8) as u32, 8) as u8;
+        i += 1;
+    }
+    io::write_all(STDOUT_FILENO, name);
+    io::write_all(STDOUT_FILENO, b"\n");
+    printing::serve(STDOUT_FILENO, &bytes[..size], Part::Answer);
+}
+
+fn refused_headers() {
+    send(b"no bytes", &[0x1000010000000000], 0);
+    send(b"a broken header", &[0x1000010000000000], 7);
+    send(b"method 0", &[0x0000010000000000], 8);
+    send(b"method 3", &[0x3000010000000000], 8);
+    send(b"no yards", &[0x1000000000000000], 8);
+    send(b"33 yards", &[0x1000210000000000], 8);
+    send(b"129 lanes", &[0x1000010008100000], 8);
+    send(b"method 2 with a lane", &[0x2000010000100000, 0], 16);
+    send(b"source 2 of 2 yards", &[0x1000020000000002], 8);
+}
+
+fn refused_counts() {
+    send(b"a lane missing", &[0x1000020000100000], 8);
+    send(b"a lane too many", &[0x1000020000100000, 0, 0], 24);
+    send(
+        b"a broken last lane",
+        &[0x1000020000100000, 0x00010000FFFFFFFB],
+        15,
+    );
+    send(
+        b"a broken word after the last lane",
+        &[0x1000020000100000, 0x00010000FFFFFFFB, 0],
+        17,
+    );
+    send(b"a broken word after no lanes", &[0x1000010000000000, 0], 9);
+    send(
+        b"a broken word, and the source",
+        &[0x1000020000000002, 0],
+        9,
+    );
+    send(b"a table entry missing", &[0x2000010000000000], 8);
+    let mut long = [0u64; 1026];
+    long[0] = 0x2000200000000000;
+    send(b"longer than any request", &long, 8208);
+    send(b"32 yards in method 2, too long a log", &long, 8200);
+    send(b"32 yards in method 2, a broken last entry", &long, 8199);
+    long[0] = 0x2000110000000000;
+    send(b"17 yards in method 2, too long a log", &long, 2320);
+    long[0] = 0x1000030006700000;
+    send(b"3 yards and 103 lanes, too long a log", &long, 832);
+}
+
+fn refused_words() {
+    send(
+        b"from a yard not there",
+        &[0x1000020000100000, 0x0201000000000005],
+        16,
+    );
+    send(
+        b"to a yard not there",
+        &[0x1000020000200000, 0, 0x0002000000000005],
+        24,
+    );
+    send(
+        b"a spare bit",
+        &[0x1000020000100000, 0x0001000100000005],
+        16,
+    );
+    send(
+        b"a spare bit before a price",
+        &[0x1000020000100000, 0x0001800000F00000],
+        16,
+    );
+    send(
+        b"a price before a spare bit",
+        &[0x1000020000200000, 0x00010000000F4241, 0x0001000100000000],
+        24,
+    );
+    send(
+        b"a price of 1,000,001",
+        &[0x1000010000100000, 0x00000000000F4241],
+        16,
+    );
+    send(
+        b"a price of -1,000,001",
+        &[0x1000010000100000, 0x00000000FFF0BDBF],
+        16,
+    );
+    send(
+        b"a spare bit in a table",
+        &[0x2000010000000000, 0x0000000100000000],
+        16,
+    );
+    send(
+        b"a price of -2 in a table",
+        &[0x2000010000000000, 0x00000000FFFFFFFE],
+        16,
+    );
+    send(
+        b"a price of 1,000,001 in a table",
+        &[0x2000010000000000, 0x00000000000F4241],
+        16,
+    );
+}
+
+fn runs_of_method_1() {
+    send(
+        b"the printed request",
+        &[0x1000020000100000, 0x00010000FFFFFFFB],
+        16,
+    );
+    send(b"one yard, no lane", &[0x1000010000000000], 8);
+    send(b"one yard, a lane of 0", &[0x1000010000100000, 0], 16);
+    send(
+        b"one yard, a lane of 1,000,000",
+        &[0x1000010000100000, 0x00000000000F4240],
+        16,
+    );
+    send(
+        b"one yard, a loss circle",
+        &[0x1000010000100000, 0x00000000FFFFFFFF],
+        16,
+    );
+    send(
+        b"a tie keeps the first lane",
+        &[0x1000020000200000, 0x0001000000000004, 0x0001000000000004],
+        24,
+    );
+    send(
+        b"a loss circle that the source does not reach",
+        &[0x1000030000200000, 0x01020000FFFFFFFF, 0x02010000FFFFFFFF],
+        24,
+    );
+    send(
+        b"a loss circle that the source reaches",
+        &[
+            0x1000030000300000,
+            0x01020000FFFFFFFF,
+            0x02010000FFFFFFFF,
+            0x00010000000F4240,
+        ],
+        32,
+    );
+    send(
+        b"a rebate of 1,000,000, from source 1",
+        &[0x1000020000100001, 0x01000000FFF0BDC0],
+        16,
+    );
+    let mut lanes = [0u64; 103];
+    lanes[0] = 0x1000030006600000;
+    lanes[1] = 0x0102000000000007;
+    lanes[102] = 0x00010000FFFFFFFD;
+    send(b"3 yards and 102 lanes, the largest log", &lanes, 824);
+}
+
+fn runs_of_method_2() {
+    send(
+        b"one yard, no lane, method 2",
+        &[0x2000010000000000, 0x00000000FFFFFFFF],
+        16,
+    );
+    send(
+        b"two yards, no lane, method 2",
+        &[
+            0x2000020000000000,
+            0x00000000FFFFFFFF,
+            0x00000000FFFFFFFF,
+            0x00000000FFFFFFFF,
+            0x00000000FFFFFFFF,
+        ],
+        40,
+    );
+    send(
+        b"a tie keeps the first yard, method 2",
+        &[0x2000030000000000, 0, 2, 4, 0, 0, 2, 0, 0, 0],
+        80,
+    );
+    let mut table = [5u64; 257];
+    table[0] = 0x200010000000000F;
+    table[241] = 1;
+    table[1] = 0x00000000FFFFFFFF;
+    table[2] = 3;
+    send(b"16 yards in method 2, the largest log", &table, 2056);
+}
+
+fn main() {
+    refused_headers();
+    refused_counts();
+    refused_words();
+    runs_of_method_1();
+    runs_of_method_2();
+}

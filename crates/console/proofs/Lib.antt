@@ -1,0 +1,3 @@
+pub mod Joining
+pub mod Handed
+pub mod Whole

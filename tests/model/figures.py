@@ -1,0 +1,191 @@
+"""The expected figures of the larger networks.
+
+Prints a block for each of five cases.  The first line of a block is
+
+    method yards lanes source rounds length verdict checksum
+
+where length counts the log's words and the checksum goes over them in order:
+s starts at 0 and becomes (s * 31 + w) mod 1000000007, w being the word read as
+an unsigned number, mod 1000000007.  With verdict 0 a line `yard distance
+parent` follows for each yard, `-` for an unreached yard's distance and for no
+parent.  With verdict 1 nothing follows.
+
+The rule of the networks.  Division drops the remainder; neither it nor mod
+meets a negative number, and nothing exceeds 62 bits.  A negative price goes
+into its word in two's complement: price + 2^32.  Each case has its own draws,
+beginning with x = its seed:
+
+    draw(K):  x = (x * 1103515245 + 12345) mod 2147483648
+              answer (x / 65536) mod K
+
+Draws are made in the order in which they are written below, and only where
+they are written.  All cases have 32 yards, numbered v; those of method 1 have
+60 lanes, numbered i and built upward from 0.
+
+Case a: method 1, source 0, seed 252.
+    h(v)  = (373 * v + 500) mod 1009
+    i < 31:   from = 30 - i, to = 31 - i, base = draw(30)
+    i >= 31:  from = draw(32), to = draw(32), base = draw(400)
+    price = base + h(to) - h(from)
+
+Case b: method 1, source 0, seed 2.  The same h and price.
+    i < 31:   from = 30 - i, to = 31 - i, base = 0
+    i < 59:   from = draw(32), to = draw(32), base = 1 + draw(400)
+    i = 59:   from = 31, to = 0, base = -1
+
+Case c: method 1, source 5, seed 110.
+    h(v)  = ((v / 3) * 7) mod 11
+    i < 12:   from = i, to = i + 1, but i - 2 where i mod 3 is 2; base = 0
+              price = base + h(to) - h(from), which is 0
+    i >= 12:  from = draw(32)
+              from < 24:   to = draw(24), base = draw(3)
+                           price = base + h(to) - h(from)
+              from >= 24:  to = draw(32), price = -1 - draw(3)
+
+Case d: method 2, source 0, seed 4.  The table by rows, u the row (from-yard)
+and v the column (to-yard), both draws made for every entry:
+    e = draw(8), p = draw(1000)
+    price = p if e = 0 and (u >= 28 or v < 28), else -1 (no lane)
+
+Case e: method 2, source 31, seed 5.  By rows as in case d:
+    g = u - v where u > v, else v - u
+    price = g * g + draw(4)
+"""
+
+import model
+import network
+
+YARDS = 32
+LANES = 60
+CHECKSUM_FACTOR = 31
+CHECKSUM_MODULUS = 1_000_000_007
+
+
+class Draws:
+    """The draws of one case."""
+
+    def __init__(self, seed):
+        self.x = seed
+
+    def below(self, k):
+        """The next draw, a number below k."""
+        self.x = (self.x * 1103515245 + 12345) % 2147483648
+        return self.x // 65536 % k
+
+
+def raised(height, origin, target, base):
+    """A lane whose price is its base and the heights' difference.
+
+    Heights cancel out along a closed walk, so its total is that of its bases.
+    """
+    return origin, target, base + height(target) - height(origin)
+
+
+def steep(v):
+    """The height of a yard in cases a and b."""
+    return (373 * v + 500) % 1009
+
+
+def stepped(v):
+    """The height of a yard in case c, the same for every three yards."""
+    return v // 3 * 7 % 11
+
+
+def lane_of_case_a(draws, i):
+    """A chain in falling order, then lanes anywhere; no loss circle."""
+    if i < YARDS - 1:
+        return raised(steep, 30 - i, 31 - i, draws.below(30))
+    origin, target = draws.below(YARDS), draws.below(YARDS)
+    return raised(steep, origin, target, draws.below(400))
+
+
+def lane_of_case_b(draws, i):
+    """A loss circle of total -1 through every yard, and no other."""
+    if i < YARDS - 1:
+        return raised(steep, 30 - i, 31 - i, 0)
+    if i == LANES - 1:
+        return raised(steep, 31, 0, -1)
+    origin, target = draws.below(YARDS), draws.below(YARDS)
+    return raised(steep, origin, target, 1 + draws.below(400))
+
+
+def lane_of_case_c(draws, i):
+    """Circles of price 0, ties, and eight unreached yards full of rebates."""
+    if i < 12:
+        return raised(stepped, i, i - 2 if i % 3 == 2 else i + 1, 0)
+    origin = draws.below(YARDS)
+    if origin < 24:
+        target = draws.below(24)
+        return raised(stepped, origin, target, draws.below(3))
+    target = draws.below(YARDS)
+    return origin, target, -1 - draws.below(3)
+
+
+def price_of_case_d(draws, u, v):
+    """A price for about one entry in eight; four yards are never entered."""
+    entry, price = draws.below(8), draws.below(1000)
+    return price if entry == 0 and (u >= 28 or v < 28) else -1
+
+
+def price_of_case_e(draws, u, v):
+    """A price for every entry, dear for long lanes, so that walks tie."""
+    gap = abs(u - v)
+    return gap * gap + draws.below(4)
+
+
+def lane_network(source, seed, lane_of):
+    """A network of method 1 whose lanes follow a case's rule."""
+    draws = Draws(seed)
+    lanes = [lane_of(draws, i) for i in range(LANES)]
+    return network.Network(1, YARDS, source, lanes)
+
+
+def table_network(source, seed, price_of):
+    """A network of method 2 whose table follows a case's rule."""
+    draws = Draws(seed)
+    table = [(u, v, price_of(draws, u, v))
+             for u in range(YARDS) for v in range(YARDS)]
+    lanes = [lane for lane in table if lane[2] != -1]
+    return network.Network(2, YARDS, source, lanes)
+
+
+def networks():
+    """The networks of the five cases in order."""
+    return [lane_network(0, 252, lane_of_case_a),
+            lane_network(0, 2, lane_of_case_b),
+            lane_network(5, 110, lane_of_case_c),
+            table_network(0, 4, price_of_case_d),
+            table_network(31, 5, price_of_case_e)]
+
+
+def checksum(log):
+    """The checksum over the words of a log."""
+    total = 0
+    for word in log:
+        total = (total * CHECKSUM_FACTOR + word % CHECKSUM_MODULUS) \
+            % CHECKSUM_MODULUS
+    return total
+
+
+def block(case):
+    """The lines of one case, held against the second computation."""
+    finished = network.run(case)
+    if not network.agrees_with_walks(case, finished):
+        raise SystemExit("figures: the model and the walks disagree")
+    rounds, length, verdict = finished.answer
+    figures = (*network.header_of(case), rounds, length, verdict,
+               checksum(finished.log))
+    lines = [" ".join(map(str, figures))]
+    if verdict == 0:
+        lines += model.yard_lines(finished.distances, finished.parents)
+    return lines
+
+
+def main():
+    """Print the blocks of all cases."""
+    for case in networks():
+        print("\n".join(block(case)))
+
+
+if __name__ == "__main__":
+    main()

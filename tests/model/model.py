@@ -1,0 +1,577 @@
+"""A model of document 01: requests, cell plans and host logs.
+
+A word is a whole number from 0 to 2^64 - 1, a cell is a signed whole number
+from -2^63 to 2^63 - 1.  Request words are a list whose first word is the
+header.  Lent buffers (cells, log, results, plan buffer) are lists, changed in
+place and never made longer or shorter.
+"""
+
+from collections import namedtuple
+
+FAR = 1 << 38
+MOST_YARDS = 32
+MOST_LANES = 128
+HIGHEST_PRICE = 1_000_000
+PLAN_PLACES = 16_777_216
+DESK_LOG_WORDS = 8192
+DESK_CELLS = 1190
+
+SET, COPY, ADD, LESS, EQUAL, BOTH, MOVEIF, OPEN = range(8)
+ROUNDS = (1, 0, 0, 6, 6, 1, 1, 1)
+
+HEADER_WIDTHS = (4, 20, 20, 20)
+OPERATION_WIDTHS = (4, 20, 20, 20)
+LANE_WIDTHS = (8, 8, 16, 32)
+TABLE_WIDTHS = (32, 32)
+PRICE_BITS = 32
+CONSTANT_BITS = 40
+HALF_BITS = 20
+CELL_BITS = 64
+
+Header = namedtuple("Header", "method yards lanes source")
+Lane = namedtuple("Lane", "origin target spare price")
+TableEntry = namedtuple("TableEntry", "spare price")
+Operation = namedtuple("Operation", "op d a b")
+Lent = namedtuple("Lent", "cells log distances parents")
+Refusal = namedtuple("Refusal", "number place", defaults=(None,))
+RequestRan = namedtuple("RequestRan", "rounds log_length verdict")
+PlanRan = namedtuple("PlanRan", "rounds log_length")
+PlanWritten = namedtuple("PlanWritten", "length")
+Cells1 = namedtuple("Cells1", "origin target price D P Y X total")
+Cells2 = namedtuple("Cells2", "U D P Y O R X total")
+
+
+# Words and their fields
+
+def join_fields(values, widths):
+    """The word with these fields, the first one most significant."""
+    word = 0
+    for value, width in zip(values, widths, strict=True):
+        if value >> width:
+            raise ValueError(f"{value} does not fit {width} bits")
+        word = word << width | value
+    return word
+
+
+def split_fields(word, widths):
+    """The fields of a word, the first one most significant."""
+    fields = []
+    for width in reversed(widths):
+        fields.append(word & ((1 << width) - 1))
+        word >>= width
+    return fields[::-1]
+
+
+def to_unsigned(number, bits):
+    """The two's complement pattern of a signed number, wrapping."""
+    return number & ((1 << bits) - 1)
+
+
+def to_signed(pattern, bits):
+    """The signed number of a two's complement pattern."""
+    return pattern - (1 << bits) if pattern >> (bits - 1) else pattern
+
+
+def join_header(header):
+    """The header word."""
+    return join_fields(header, HEADER_WIDTHS)
+
+
+def split_header(word):
+    """The header of a header word."""
+    return Header(*split_fields(word, HEADER_WIDTHS))
+
+
+def join_lane(lane):
+    """The lane word of method 1."""
+    fields = lane._replace(price=to_unsigned(lane.price, PRICE_BITS))
+    return join_fields(fields, LANE_WIDTHS)
+
+
+def split_lane(word):
+    """The lane of a lane word of method 1."""
+    lane = Lane(*split_fields(word, LANE_WIDTHS))
+    return lane._replace(price=to_signed(lane.price, PRICE_BITS))
+
+
+def join_table_entry(entry):
+    """The table word of method 2."""
+    fields = entry._replace(price=to_unsigned(entry.price, PRICE_BITS))
+    return join_fields(fields, TABLE_WIDTHS)
+
+
+def split_table_entry(word):
+    """The table entry of a table word of method 2."""
+    entry = TableEntry(*split_fields(word, TABLE_WIDTHS))
+    return entry._replace(price=to_signed(entry.price, PRICE_BITS))
+
+
+def join_operation(operation):
+    """The operation word of a plan."""
+    return join_fields(operation, OPERATION_WIDTHS)
+
+
+def split_operation(word):
+    """The operation of an operation word."""
+    return Operation(*split_fields(word, OPERATION_WIDTHS))
+
+
+# Places of the cells, lengths of plan and log
+
+def cells_of_method_1(header):
+    """Where the cells of method 1 lie, and how many there are."""
+    n, m = header.yards, header.lanes
+    return Cells1(origin=0, target=m, price=2 * m, D=3 * m, P=3 * m + n,
+                  Y=3 * m + 2 * n, X=3 * m + 3 * n, total=3 * m + 3 * n + 8)
+
+
+def cells_of_method_2(header):
+    """Where the cells of method 2 lie, and how many there are."""
+    n = header.yards
+    table = n * n
+    return Cells2(U=0, D=table, P=table + n, Y=table + 2 * n, O=table + 3 * n,
+                  R=table + 4 * n, X=table + 5 * n, total=table + 5 * n + 6)
+
+
+def cells_of(header):
+    """Where the cells of the header's method lie."""
+    if header.method == 1:
+        return cells_of_method_1(header)
+    return cells_of_method_2(header)
+
+
+def plan_length(header):
+    """The words of a plan, its header counted."""
+    n, m = header.yards, header.lanes
+    if header.method == 1:
+        return 3 * n + 4 + m * (8 * n * n + 3 * n - 1)
+    return n ** 3 + 11 * n * n + 6 * n + 3
+
+
+def log_length(header):
+    """The words of a request's log: its plan and the published cells."""
+    return plan_length(header) + (1 if header.method == 1 else 0)
+
+
+# The plans
+
+def set_to(d, number):
+    """SET of cell d to a signed number of 40 bits."""
+    pattern = to_unsigned(number, CONSTANT_BITS)
+    return SET, d, pattern >> HALF_BITS, to_unsigned(pattern, HALF_BITS)
+
+
+def open_yard(header, cells, v):
+    """The SETs of Y+v, D+v and P+v that both methods begin with."""
+    return [set_to(cells.Y + v, v),
+            set_to(cells.D + v, 0 if v == header.source else FAR),
+            set_to(cells.P + v, -1)]
+
+
+def read_origin(cells, n, i):
+    """Bring the from-yard's distance of lane i to X+1."""
+    X = cells.X
+    operations = [(COPY, X + 1, X, 0)]
+    for v in range(n):
+        operations += [(EQUAL, X + 5, cells.origin + i, cells.Y + v),
+                       (MOVEIF, X + 1, X + 5, cells.D + v)]
+    return operations
+
+
+def try_lane(cells, i):
+    """The total by way of lane i to X+2, and to X+4 whether it starts."""
+    X = cells.X
+    return [(ADD, X + 2, X + 1, cells.price + i),
+            (LESS, X + 4, X + 1, X)]
+
+
+def betters(cells, i, v):
+    """To X+6 whether lane i leads to yard v and betters its distance."""
+    X = cells.X
+    return [(EQUAL, X + 5, cells.target + i, cells.Y + v),
+            (LESS, X + 6, X + 2, cells.D + v),
+            (BOTH, X + 6, X + 6, X + 4),
+            (BOTH, X + 6, X + 6, X + 5)]
+
+
+def relax_lane(cells, n, i):
+    """Lane i in one of the n-1 passes of method 1."""
+    X = cells.X
+    operations = read_origin(cells, n, i) + try_lane(cells, i)
+    operations.append(set_to(X + 3, i))
+    for v in range(n):
+        operations += betters(cells, i, v)
+        operations += [(MOVEIF, cells.D + v, X + 6, X + 2),
+                       (MOVEIF, cells.P + v, X + 6, X + 3)]
+    return operations
+
+
+def check_lane(cells, n, i):
+    """Lane i in the check of method 1."""
+    X = cells.X
+    operations = read_origin(cells, n, i) + try_lane(cells, i)
+    for v in range(n):
+        operations += betters(cells, i, v)
+        operations.append((MOVEIF, X + 7, X + 6, X + 6))
+    return operations
+
+
+def plan_of_method_1(header):
+    """The operations of method 1 in order, as (op, d, a, b)."""
+    n, m = header.yards, header.lanes
+    cells = cells_of_method_1(header)
+    for v in range(n):
+        yield from open_yard(header, cells, v)
+    yield set_to(cells.X, FAR)
+    yield set_to(cells.X + 7, 0)
+    for _ in range(n - 1):
+        for i in range(m):
+            yield from relax_lane(cells, n, i)
+    for i in range(m):
+        yield from check_lane(cells, n, i)
+    yield OPEN, 0, cells.X + 7, 0
+
+
+def choose_yard(cells, n):
+    """The nearest yard still open to X+3, its distance to X+1."""
+    X = cells.X
+    operations = [(COPY, X + 1, X, 0), set_to(X + 3, -1)]
+    for v in range(n):
+        operations += [(LESS, X + 5, cells.D + v, X + 1),
+                       (BOTH, X + 5, X + 5, cells.O + v),
+                       (MOVEIF, X + 1, X + 5, cells.D + v),
+                       (MOVEIF, X + 3, X + 5, cells.Y + v)]
+    return operations
+
+
+def read_row(cells, n):
+    """Close the chosen yard and bring its row of the table to R."""
+    X = cells.X
+    operations = [(COPY, cells.R + j, X, 0) for j in range(n)]
+    for v in range(n):
+        operations += [(EQUAL, X + 5, X + 3, cells.Y + v),
+                       (MOVEIF, cells.O + v, X + 5, X + 4)]
+        operations += [(MOVEIF, cells.R + j, X + 5, cells.U + v * n + j)
+                       for j in range(n)]
+    return operations
+
+
+def relax_row(cells, n):
+    """Better every yard's distance by way of the chosen yard."""
+    X = cells.X
+    operations = []
+    for j in range(n):
+        operations += [(ADD, X + 2, X + 1, cells.R + j),
+                       (LESS, X + 5, X + 2, cells.D + j),
+                       (MOVEIF, cells.D + j, X + 5, X + 2),
+                       (MOVEIF, cells.P + j, X + 5, X + 3)]
+    return operations
+
+
+def plan_of_method_2(header):
+    """The operations of method 2 in order, as (op, d, a, b)."""
+    n = header.yards
+    cells = cells_of_method_2(header)
+    for v in range(n):
+        yield from open_yard(header, cells, v)
+        yield set_to(cells.O + v, 1)
+    yield set_to(cells.X, FAR)
+    yield set_to(cells.X + 4, 0)
+    for _ in range(n):
+        yield from choose_yard(cells, n)
+        yield from read_row(cells, n)
+        yield from relax_row(cells, n)
+
+
+def plan_operations(header):
+    """The operations of the header's plan, as (op, d, a, b)."""
+    if header.method == 1:
+        return plan_of_method_1(header)
+    return plan_of_method_2(header)
+
+
+def plan_words(header):
+    """The words of the header's plan, the header first."""
+    return [join_header(header),
+            *(join_operation(operation) for operation in plan_operations(header))]
+
+
+# Carrying out
+
+def carry_out(cells, op, d, a, b):
+    """Do to the cells what one operation says; OPEN changes none."""
+    if op == SET:
+        cells[d] = to_signed(a << HALF_BITS | b, CONSTANT_BITS)
+    elif op == COPY:
+        cells[d] = cells[a]
+    elif op == ADD:
+        total = to_unsigned(cells[a] + cells[b], CELL_BITS)
+        cells[d] = to_signed(total, CELL_BITS)
+    elif op == LESS:
+        cells[d] = int(cells[a] < cells[b])
+    elif op == EQUAL:
+        cells[d] = int(cells[a] == cells[b])
+    elif op == BOTH:
+        cells[d] = int(cells[a] != 0 and cells[b] != 0)
+    elif op == MOVEIF and cells[a] != 0:
+        cells[d] = cells[b]
+
+
+def carry_out_plan(plan, cells, log):
+    """Carry out a plan's words on the cells, write the log, count rounds.
+
+    The header is logged and not carried out.  Each OPEN is followed in the
+    log by the published cell.
+    """
+    rounds = 0
+    length = 0
+    for place, word in enumerate(plan):
+        log[length] = word
+        length += 1
+        if place == 0:
+            continue
+        op, d, a, b = split_fields(word, OPERATION_WIDTHS)
+        carry_out(cells, op, d, a, b)
+        rounds += ROUNDS[op]
+        if op == OPEN:
+            log[length] = to_unsigned(cells[a], CELL_BITS)
+            length += 1
+    return PlanRan(rounds, length)
+
+
+def addresses(operation):
+    """The fields of an operation that name cells."""
+    op, d, a, b = operation
+    if op == SET:
+        return (d,)
+    if op == COPY:
+        return (d, a)
+    if op == OPEN:
+        return (a,)
+    return (d, a, b)
+
+
+def names_missing_cell(operation, cell_count):
+    """Whether an operation names a cell that is not there."""
+    return any(address >= cell_count for address in addresses(operation))
+
+
+def replay(log, cells):
+    """Carry out a log on a bank of cells; False if a word ended it early."""
+    published = False
+    for word in log[1:]:
+        if published:
+            published = False
+            continue
+        operation = split_operation(word)
+        if operation.op > OPEN or names_missing_cell(operation, len(cells)):
+            return False
+        carry_out(cells, *operation)
+        published = operation.op == OPEN
+    return True
+
+
+# Refusals
+
+def header_refusal(words):
+    """The first of refusals 1 to 4, or None."""
+    if not words:
+        return Refusal(1)
+    header = split_header(words[0])
+    if header.method not in (1, 2):
+        return Refusal(1)
+    if not 1 <= header.yards <= MOST_YARDS:
+        return Refusal(2)
+    if header.lanes > (MOST_LANES if header.method == 1 else 0):
+        return Refusal(3)
+    if header.source >= header.yards:
+        return Refusal(4)
+    return None
+
+
+def words_expected(header):
+    """How many words follow the header of a request."""
+    return header.lanes if header.method == 1 else header.yards ** 2
+
+
+def buffer_refusal(header, word_count, lent):
+    """The first of refusals 5 to 8, or None."""
+    if word_count != words_expected(header):
+        return Refusal(5)
+    if lent.cells < cells_of(header).total:
+        return Refusal(6)
+    if lent.log < log_length(header):
+        return Refusal(7)
+    if min(lent.distances, lent.parents) < header.yards:
+        return Refusal(8)
+    return None
+
+
+def lane_refusal(header, place, word):
+    """Refusal 10 or 11 of one lane word, or None."""
+    lane = split_lane(word)
+    if max(lane.origin, lane.target) >= header.yards or lane.spare != 0:
+        return Refusal(10, place)
+    if not -HIGHEST_PRICE <= lane.price <= HIGHEST_PRICE:
+        return Refusal(11, place)
+    return None
+
+
+def table_refusal(place, word):
+    """Refusal 10 or 11 of one table word, or None."""
+    entry = split_table_entry(word)
+    if entry.spare != 0:
+        return Refusal(10, place)
+    if not -1 <= entry.price <= HIGHEST_PRICE:
+        return Refusal(11, place)
+    return None
+
+
+def input_refusal(header, inputs):
+    """The refusal of the lowest input word that has one, or None."""
+    for place, word in enumerate(inputs):
+        if header.method == 1:
+            refusal = lane_refusal(header, place, word)
+        else:
+            refusal = table_refusal(place, word)
+        if refusal:
+            return refusal
+    return None
+
+
+def request_refusal(words, lent):
+    """The first refusal of a request before its run, or None.
+
+    `lent` holds the lengths of the lent buffers.
+    """
+    refusal = header_refusal(words)
+    if refusal:
+        return refusal
+    header, inputs = split_header(words[0]), words[1:]
+    return (buffer_refusal(header, len(inputs), lent)
+            or input_refusal(header, inputs))
+
+
+def plan_word_refused(place, word, cell_count):
+    """Whether the runner refuses the word at this place of a foreign plan."""
+    if place == 0:
+        return False
+    operation = split_operation(word)
+    op, d, _, b = operation
+    return (place >= PLAN_PLACES
+            or op > OPEN
+            or (op == COPY and b != 0)
+            or (op == OPEN and (d != 0 or b != 0))
+            or names_missing_cell(operation, cell_count))
+
+
+def foreign_log_length(plan):
+    """The words of a foreign plan's log."""
+    opened = sum(split_operation(word).op == OPEN for word in plan[1:])
+    return len(plan) + opened
+
+
+def foreign_refusal(plan, cell_count, log_words):
+    """The runner's refusal of a foreign plan, or None."""
+    for place, word in enumerate(plan):
+        if plan_word_refused(place, word, cell_count):
+            return Refusal(9, place)
+    if log_words < foreign_log_length(plan):
+        return Refusal(7)
+    return None
+
+
+# Public calls
+
+def intake(words):
+    """The needed cells as the request's words fill them, the rest of them 0."""
+    header, inputs = split_header(words[0]), words[1:]
+    if header.method == 1:
+        lanes = [split_lane(word) for word in inputs]
+        filled = ([lane.origin for lane in lanes]
+                  + [lane.target for lane in lanes]
+                  + [lane.price for lane in lanes])
+    else:
+        prices = [split_table_entry(word).price for word in inputs]
+        filled = [FAR if price == -1 else price for price in prices]
+    return filled + [0] * (cells_of(header).total - len(filled))
+
+
+def verdict_of(header, cells):
+    """The verdict a run left in the cells."""
+    return cells[cells_of_method_1(header).X + 7] if header.method == 1 else 0
+
+
+def run_request(words, cells, log, distances, parents):
+    """Run a request: RequestRan or a Refusal.
+
+    Verdict 1 is refusal 12, which leaves no results.
+    """
+    lent = Lent(len(cells), len(log), len(distances), len(parents))
+    refusal = request_refusal(words, lent)
+    if refusal:
+        return refusal
+    header = split_header(words[0])
+    n, where = header.yards, cells_of(header)
+    cells[:where.total] = intake(words)
+    ran = carry_out_plan(plan_words(header), cells, log)
+    verdict = verdict_of(header, cells)
+    if verdict == 0:
+        distances[:n] = cells[where.D:where.D + n]
+        parents[:n] = cells[where.P:where.P + n]
+    return RequestRan(ran.rounds, ran.log_length, verdict)
+
+
+def run_foreign(plan, cells, log):
+    """Run a foreign plan on the lent cells: PlanRan or a Refusal."""
+    return (foreign_refusal(plan, len(cells), len(log))
+            or carry_out_plan(plan, cells, log))
+
+
+def write_plan(words, buffer):
+    """Write the plan of a header into a buffer: PlanWritten or a Refusal."""
+    refusal = header_refusal(words)
+    if refusal:
+        return refusal
+    header = split_header(words[0])
+    length = plan_length(header)
+    if len(buffer) < length:
+        return Refusal(7)
+    buffer[:length] = plan_words(header)
+    return PlanWritten(length)
+
+
+# The desk's program
+
+def yard_lines(distances, parents):
+    """A line `yard distance parent` for each yard, `-` for none."""
+    return [f"{v} {'-' if distance == FAR else distance}"
+            f" {'-' if parent == -1 else parent}"
+            for v, (distance, parent) in enumerate(zip(distances, parents))]
+
+
+def refusal_line(refusal):
+    """The one line of a refusal, with its place where there is one."""
+    place = "" if refusal.place is None else f" {refusal.place}"
+    return f"refused {refusal.number}{place}"
+
+
+def desk_lines(data):
+    """The lines the desk's program prints for the bytes it reads."""
+    words = [int.from_bytes(data[k:k + 8], "big")
+             for k in range(0, len(data) - 7, 8)]
+    distances, parents = [0] * MOST_YARDS, [0] * MOST_YARDS
+    if len(data) % 8:
+        answer = header_refusal(words) or Refusal(5)
+    else:
+        answer = run_request(words, [0] * DESK_CELLS, [0] * DESK_LOG_WORDS,
+                             distances, parents)
+    if isinstance(answer, RequestRan) and answer.verdict == 1:
+        answer = Refusal(12)
+    if isinstance(answer, Refusal):
+        return [refusal_line(answer)]
+    header = split_header(words[0])
+    public = " ".join(map(str, header))
+    n = header.yards
+    return [f"{public} {answer.rounds} {answer.verdict}",
+            *yard_lines(distances[:n], parents[:n])]

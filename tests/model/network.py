@@ -1,0 +1,88 @@
+"""Networks as plain lanes, their request words, and their runs in the model.
+
+A network's lanes are triples (from-yard, to-yard, price).  In method 2 no two
+of them join the same yards in the same direction.
+"""
+
+from collections import namedtuple
+
+import model
+import walks
+
+Network = namedtuple("Network", "method yards source lanes")
+Run = namedtuple("Run", "answer start cells log distances parents")
+
+
+def header_of(network):
+    """The header of a network's request."""
+    lanes = len(network.lanes) if network.method == 1 else 0
+    return model.Header(network.method, network.yards, lanes, network.source)
+
+
+def input_words(network):
+    """The words after the header of a network's request."""
+    if network.method == 1:
+        return [model.join_lane(model.Lane(origin, target, 0, price))
+                for origin, target, price in network.lanes]
+    prices = {(origin, target): price
+              for origin, target, price in network.lanes}
+    yards = range(network.yards)
+    return [model.join_table_entry(model.TableEntry(0, prices.get((u, v), -1)))
+            for u in yards for v in yards]
+
+
+def request_words(network):
+    """The words of a network's request."""
+    return [model.join_header(header_of(network)), *input_words(network)]
+
+
+def run(network, surplus=0, lent=0):
+    """Run a network's request on buffers filled with `lent`.
+
+    Each buffer is longer than needed by `surplus`.  The answer comes with the
+    starting cells and with the buffers as the run left them.
+    """
+    words = request_words(network)
+    header = model.split_header(words[0])
+    cells = [lent] * (model.cells_of(header).total + surplus)
+    log = [lent] * (model.log_length(header) + surplus)
+    distances = [lent] * (header.yards + surplus)
+    parents = [lent] * (header.yards + surplus)
+    start = model.intake(words) + [lent] * surplus
+    answer = model.run_request(words, cells, log, distances, parents)
+    return Run(answer, start, cells, log, distances, parents)
+
+
+def walk_distances(network):
+    """Distances and loss circle by the second computation."""
+    n, lanes, source = network.yards, network.lanes, network.source
+    if network.method == 1:
+        return walks.bellman_ford(n, lanes, source)
+    return walks.dijkstra(n, lanes, source), False
+
+
+def last_lanes(network, parents):
+    """The lane each yard's parent stands for, or None."""
+    if network.method == 1:
+        return [None if parent == -1 else network.lanes[parent]
+                for parent in parents]
+    joined = {lane[:2]: lane for lane in network.lanes}
+    return [joined.get((parent, v)) for v, parent in enumerate(parents)]
+
+
+def agrees_with_walks(network, finished):
+    """Whether a run's verdict, distances and parents are the right ones."""
+    distances, loss_circle = walk_distances(network)
+    if finished.answer.verdict != int(loss_circle):
+        return False
+    if loss_circle:
+        return True
+    n = network.yards
+    found = [None if distance == model.FAR else distance
+             for distance in finished.distances[:n]]
+    parents = finished.parents[:n]
+    no_parent = [v == network.source or distances[v] is None for v in range(n)]
+    return (found == distances
+            and [parent == -1 for parent in parents] == no_parent
+            and walks.parents_hold(network.source, distances,
+                                   last_lanes(network, parents)))

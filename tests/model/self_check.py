@@ -1,0 +1,507 @@
+"""Holds the model against document 01 and against the second computation."""
+
+import random
+
+import figures
+import model
+import network
+import spelled
+from model import (ADD, COPY, FAR, OPEN, SET, Header, Lane, Lent, PlanRan,
+                   PlanWritten, Refusal, RequestRan, TableEntry)
+from network import Network
+
+SEED = 20240117
+FIGURES_LOG_WORDS = 500_000
+RANDOM_PAIRS = 150
+RANDOM_PLANS = 150
+SURPLUS = 3
+LENT = -7
+MOST_CELL = (1 << 63) - 1
+
+PLAN_OF_ONE_YARD = [int(word, 16) for word in (
+    "1000010000000000 0000020000000000 0000000000000000 000001FFFFFFFFFF"
+    " 0000034000000000 00000A0000000000 7000000000A00000").split()]
+PRINTED_REQUEST = bytes.fromhex("100002000010000000010000FFFFFFFB")
+PRINTED_LINES = ["1 2 1 0 112 0", "0 0 -", "1 -5 0"]
+
+
+class Checks:
+    """Counts the checks that hold and stops at the first that does not."""
+
+    def __init__(self):
+        self.count = 0
+
+    def holds(self, condition, what):
+        """Count one check."""
+        if not condition:
+            raise SystemExit(f"model: this does not hold: {what}")
+        self.count += 1
+
+    def equal(self, found, expected, what):
+        """Count one check of two values."""
+        self.holds(found == expected, f"{what}: {found}, expected {expected}")
+
+
+def rounds_by_formula(header):
+    """The rounds document 01 states for a header."""
+    n, m = header.yards, header.lanes
+    if header.method == 1:
+        return 3 * n + 3 + m * (23 * n * n + 6 * n - 1)
+    return n ** 3 + 24 * n * n + 5 * n + 2
+
+
+def answer_to(words):
+    """The answer to a request whose buffers are long enough for any small n."""
+    return model.run_request(words, [0] * 2000, [0] * 9000, [0] * 32, [0] * 32)
+
+
+def self_lane(price):
+    """Row 3's network: one yard, a lane from it to itself."""
+    return Network(1, 1, 0, [(0, 0, price)])
+
+
+# The requests at the edges
+
+def check_edge_plan(checks):
+    """Row 1."""
+    finished = network.run(Network(1, 1, 0, []))
+    checks.equal(model.plan_words(Header(1, 1, 0, 0)), PLAN_OF_ONE_YARD,
+                 "row 1, plan")
+    checks.equal(finished.log, PLAN_OF_ONE_YARD + [0], "row 1, log")
+    checks.equal(finished.answer, RequestRan(6, 8, 0), "row 1, answer")
+
+
+def check_edge_printed(checks):
+    """Row 2."""
+    printed = Network(1, 2, 0, [(0, 1, -5)])
+    words = [int.from_bytes(PRINTED_REQUEST[k:k + 8], "big") for k in (0, 8)]
+    finished = network.run(printed)
+    checks.equal(network.request_words(printed), words, "row 2, words")
+    checks.equal(finished.answer, RequestRan(112, 48, 0), "row 2, answer")
+    checks.equal(finished.distances, [0, -5], "row 2, distances")
+    checks.equal(finished.parents, [-1, 0], "row 2, parents")
+    checks.equal(model.desk_lines(PRINTED_REQUEST), PRINTED_LINES,
+                 "row 2, printed lines")
+
+
+def check_edge_method_1(checks):
+    """Rows 3, 4 and 5."""
+    checks.equal(network.run(self_lane(-1)).answer.verdict, 1, "row 3, -1")
+    checks.equal(network.run(self_lane(0)).answer.verdict, 0, "row 3, 0")
+    tie = network.run(Network(1, 2, 0, [(0, 1, 4), (0, 1, 4)]))
+    checks.equal((tie.answer.verdict, tie.distances, tie.parents),
+                 (0, [0, 4], [-1, 0]), "row 4")
+    apart = network.run(Network(1, 3, 0, [(1, 2, -1), (2, 1, -1)]))
+    checks.equal((apart.answer.verdict, apart.distances, apart.parents),
+                 (0, [0, FAR, FAR], [-1, -1, -1]), "row 5")
+
+
+def check_edge_method_2(checks):
+    """Rows 6 and 7."""
+    empty = network.run(Network(2, 2, 0, []))
+    checks.equal((empty.answer.rounds, empty.distances, empty.parents),
+                 (116, [0, FAR], [-1, -1]), "row 6")
+    checks.equal(model.plan_length(Header(2, 1, 0, 0)), 21, "row 7, words")
+    checks.equal(network.run(Network(2, 1, 0, [])).answer,
+                 RequestRan(32, 21, 0), "row 7, answer")
+
+
+def check_edge_limits(checks):
+    """Rows 8 and 9."""
+    checks.equal(network.run(self_lane(1_000_000)).answer.verdict, 0,
+                 "row 8, 1,000,000")
+    checks.equal(network.run(self_lane(1_000_001)).answer, Refusal(11, 0),
+                 "row 8, 1,000,001")
+    for header, number in ((Header(1, 33, 0, 0), 2), (Header(2, 33, 0, 0), 2),
+                           (Header(1, 1, 129, 0), 3)):
+        checks.equal(answer_to([model.join_header(header)]), Refusal(number),
+                     "row 9")
+
+
+def check_edge_cells(checks):
+    """Rows 10 and 11."""
+    cells = [0]
+    plan = [0, model.join_operation((SET, 0, 524_288, 0))]
+    checks.equal(model.run_foreign(plan, cells, [0] * 2), PlanRan(1, 2),
+                 "row 10, answer")
+    checks.equal(cells, [-549_755_813_888], "row 10, cell")
+    cells = [MOST_CELL, 1]
+    plan = [0, model.join_operation((ADD, 0, 0, 1))]
+    checks.equal(model.run_foreign(plan, cells, [0] * 2), PlanRan(0, 2),
+                 "row 11, answer")
+    checks.equal(cells, [-MOST_CELL - 1, 1], "row 11, cells")
+
+
+# Words, lengths and rounds
+
+def check_fields(checks):
+    """Splitting undoes joining, at both ends of every signed field."""
+    for header in (Header(1, 32, 128, 31), Header(15, *[(1 << 20) - 1] * 3)):
+        checks.equal(model.split_header(model.join_header(header)), header,
+                     "header fields")
+    for price in (-1 << 31, -1_000_000, -1, 0, 1_000_000, (1 << 31) - 1):
+        lane = Lane(255, 1, 65_535, price)
+        entry = TableEntry((1 << 32) - 1, price)
+        checks.equal(model.split_lane(model.join_lane(lane)), lane,
+                     "lane fields")
+        checks.equal(model.split_table_entry(model.join_table_entry(entry)),
+                     entry, "table fields")
+    for number in (-1 << 39, -1, 0, FAR, (1 << 39) - 1):
+        cells = [0]
+        model.carry_out(cells, *model.set_to(0, number))
+        checks.equal(cells, [number], "constant of SET")
+
+
+def check_counted(checks, header):
+    """Length, rounds and addresses of one plan, counted."""
+    operations = list(model.plan_operations(header))
+    total = model.cells_of(header).total
+    words = model.plan_words(header)
+    checks.equal(len(operations) + 1, model.plan_length(header),
+                 f"length of {header}")
+    checks.equal(sum(model.ROUNDS[op] for op, _, _, _ in operations),
+                 rounds_by_formula(header), f"rounds of {header}")
+    checks.equal(model.foreign_refusal(words, total, 2 * len(words)), None,
+                 f"plan of {header} as a foreign plan")
+
+
+def check_lengths(checks):
+    """Lengths and rounds by formula at the limits, by counting below."""
+    largest = Header(1, 32, 128, 0)
+    checks.equal(model.plan_length(largest), 1_060_836, "words at the limit")
+    checks.equal(model.log_length(largest), 1_060_837, "log at the limit")
+    checks.equal(rounds_by_formula(largest), 3_039_203, "rounds at the limit")
+    table = Header(2, 32, 0, 0)
+    checks.equal(model.plan_length(table), 44_227, "words of method 2")
+    checks.equal(rounds_by_formula(table), 57_506, "rounds of method 2")
+    checks.equal(model.cells_of(table).total, model.DESK_CELLS,
+                 "cells of method 2")
+    check_counted(checks, table)
+    for n in range(1, 9):
+        check_counted(checks, Header(2, n, 0, n - 1))
+        for m in range(5):
+            check_counted(checks, Header(1, n, m, n - 1))
+
+
+def check_spelled_plans(checks):
+    """The plans of two small headers, spelled out by hand."""
+    for header, plan, places in (
+            (Header(1, 2, 1, 0), spelled.PLAN_1, spelled.PLACES_1),
+            (Header(2, 2, 0, 1), spelled.PLAN_2, spelled.PLACES_2)):
+        checks.equal(list(model.plan_operations(header)),
+                     spelled.operations(plan, places), f"plan of {header}")
+
+
+def check_figures_lanes(checks):
+    """The figures' networks have as many lanes as their log allows."""
+    lengths = [model.log_length(Header(1, figures.YARDS, figures.LANES + more,
+                                       0)) for more in (0, 1)]
+    checks.holds(lengths[0] <= FIGURES_LOG_WORDS < lengths[1],
+                 "lanes of the figures")
+
+
+# Refusals
+
+def refused_unchanged(checks, words, lengths, expected):
+    """A request on buffers of these lengths is refused and changes none."""
+    buffers = [[LENT] * length for length in lengths]
+    checks.equal(model.run_request(words, *buffers), expected, "refusal")
+    checks.equal(buffers, [[LENT] * length for length in lengths],
+                 f"buffers after {expected}")
+
+
+def climb(checks, headers, inputs, enough, late_refusals):
+    """Repair one fault after another; the refusals come in their order.
+
+    `headers` have faults 1 to 4 and then none, each one fault fewer.
+    `inputs` are lists of input words, the first of a wrong number, each later
+    one with one fault fewer; `late_refusals` belong to those later ones.
+    """
+    short, none = inputs[0], Lent(0, 0, 0, 0)
+    refused_unchanged(checks, [], none, Refusal(1))
+    for number, header in enumerate(headers[:4], start=1):
+        refused_unchanged(checks, [model.join_header(header), *short], none,
+                          Refusal(number))
+    first = model.join_header(headers[4])
+    refused_unchanged(checks, [first, *short], none, Refusal(5))
+    words = [first, *inputs[1]]
+    lengths = Lent(*(length - 1 for length in enough))
+    refused_unchanged(checks, words, lengths, Refusal(6))
+    lengths = lengths._replace(cells=enough.cells)
+    refused_unchanged(checks, words, lengths, Refusal(7))
+    lengths = lengths._replace(log=enough.log)
+    refused_unchanged(checks, words, lengths, Refusal(8))
+    for missing in ("distances", "parents"):
+        one_short = enough._replace(**{missing: getattr(enough, missing) - 1})
+        refused_unchanged(checks, words, one_short, Refusal(8))
+    for faulty, refusal in zip(inputs[1:], late_refusals):
+        refused_unchanged(checks, [first, *faulty], enough, refusal)
+    checks.holds(isinstance(answer_to([first, *inputs[-1]]), RequestRan),
+                 "a request without faults runs")
+
+
+def check_order_method_1(checks):
+    """Refusals 1 to 11 of method 1."""
+    headers = [Header(3, 33, 129, 33), Header(1, 33, 129, 33),
+               Header(1, 2, 129, 2), Header(1, 2, 2, 2), Header(1, 2, 2, 1)]
+    dear, right = Lane(0, 1, 0, 1_000_001), Lane(0, 1, 0, 1_000_000)
+    lanes = [[dear], [dear, Lane(2, 0, 0, -1_000_001)],
+             [right, Lane(2, 0, 0, -1_000_001)],
+             [right, Lane(0, 2, 0, -1_000_001)],
+             [right, Lane(0, 1, 1, -1_000_001)],
+             [right, Lane(0, 1, 0, -1_000_001)],
+             [right, Lane(0, 1, 0, -1_000_000)]]
+    inputs = [[model.join_lane(lane) for lane in row] for row in lanes]
+    climb(checks, headers, inputs, Lent(20, 85, 2, 2),
+          [Refusal(11, 0), Refusal(10, 1), Refusal(10, 1), Refusal(10, 1),
+           Refusal(11, 1)])
+
+
+def check_order_method_2(checks):
+    """Refusals 1 to 11 of method 2."""
+    headers = [Header(0, 0, 1, 0), Header(2, 0, 1, 0), Header(2, 2, 1, 2),
+               Header(2, 2, 0, 2), Header(2, 2, 0, 1)]
+    tables = [[(0, 5)], [(0, -2), (0, 5), (1, -2), (0, -1)],
+              [(0, -1), (0, 5), (1, 1_000_001), (0, -1)],
+              [(0, -1), (0, 5), (0, 1_000_001), (0, -1)],
+              [(0, -1), (0, 5), (0, 1_000_000), (0, -1)]]
+    inputs = [[model.join_table_entry(TableEntry(*entry)) for entry in row]
+              for row in tables]
+    climb(checks, headers, inputs, Lent(20, 67, 2, 2),
+          [Refusal(11, 0), Refusal(10, 2), Refusal(11, 2)])
+
+
+def check_desk(checks):
+    """The desk's lines for requests that do not run, or have no parents."""
+    printed = {
+        "": "refused 1", "10000200001000": "refused 1",
+        "1000020000000000" + "00": "refused 5",
+        "1000020000200000" + "0001000000000001" + "00": "refused 5",
+        "10002100002000": "refused 1", "1000210000200000" + "00": "refused 2",
+        "1000200000100000" + "0000000000000000": "refused 7",
+        "1000010000100000" + "00000000000F4241": "refused 11 0",
+        "1000010000100000" + "00010000000F4241": "refused 10 0",
+        "1000010000100000" + "00000000FFFFFFFF": "refused 12",
+    }
+    for request, line in printed.items():
+        checks.equal(model.desk_lines(bytes.fromhex(request)), [line],
+                     f"desk, {request}")
+    table = network.request_words(Network(2, 2, 1, [(0, 1, 3)]))
+    data = b"".join(word.to_bytes(8, "big") for word in table)
+    checks.equal(model.desk_lines(data), ["2 2 0 1 116 0", "0 - -", "1 0 -"],
+                 "desk, method 2")
+
+
+def check_plan_writer(checks):
+    """Plan writing and its refusals."""
+    refused = ((None, 1), (Header(3, 0, 0, 0), 1), (Header(1, 0, 129, 0), 2),
+               (Header(2, 1, 1, 1), 3), (Header(1, 1, 129, 1), 3),
+               (Header(1, 1, 128, 1), 4))
+    for header, number in refused:
+        words = [] if header is None else [model.join_header(header)]
+        checks.equal(model.write_plan(words, []), Refusal(number),
+                     "plan writer")
+    for header in (Header(1, 1, 0, 0), Header(1, 3, 2, 1), Header(2, 2, 0, 1)):
+        words, length = [model.join_header(header)], model.plan_length(header)
+        buffer = [LENT] * (length - 1)
+        checks.equal(model.write_plan(words, buffer), Refusal(7),
+                     "plan writer, short buffer")
+        checks.equal(buffer, [LENT] * (length - 1), "buffer after refusal 7")
+        buffer = [LENT] * (length + SURPLUS)
+        checks.equal(model.write_plan(words, buffer), PlanWritten(length),
+                     "plan writer, length")
+        checks.equal(buffer, model.plan_words(header) + [LENT] * SURPLUS,
+                     "plan writer, words")
+
+
+# Foreign plans and replay
+
+def check_foreign_words(checks):
+    """Which words the runner refuses, four cells being lent."""
+    refused = [(8, 0, 0, 0), (15, 0, 0, 0), (COPY, 0, 0, 1), (OPEN, 1, 0, 0),
+               (OPEN, 0, 0, 1), (SET, 4, 0, 0), (COPY, 4, 0, 0),
+               (COPY, 0, 4, 0), (OPEN, 0, 4, 0)]
+    refused += [(op, *fields) for op in range(ADD, OPEN)
+                for fields in ((4, 0, 0), (0, 4, 0), (0, 0, 4))]
+    allowed = [(SET, 3, 1_048_575, 1_048_575), (COPY, 3, 3, 0), (OPEN, 0, 3, 0)]
+    allowed += [(op, 3, 3, 3) for op in range(ADD, OPEN)]
+    for operations, answer in ((refused, True), (allowed, False)):
+        for operation in operations:
+            word = model.join_operation(operation)
+            checks.equal(model.plan_word_refused(1, word, 4), answer,
+                         f"plan word {operation}")
+            checks.equal(model.plan_word_refused(0, word, 4), False,
+                         f"header like {operation}")
+    checks.equal([model.plan_word_refused(place, 0, 1)
+                  for place in (16_777_215, 16_777_216, 16_777_217)],
+                 [False, True, True], "last place of a plan")
+
+
+def check_foreign_order(checks):
+    """The runner's refusals in order, and the plans without operations."""
+    opening = model.join_operation((OPEN, 0, 0, 0))
+    wrong = model.join_operation((8, 0, 0, 0))
+    header = (1 << 64) - 1
+    for plan, expected in (([header, opening, wrong, wrong], Refusal(9, 2)),
+                           ([header, opening, opening], Refusal(7))):
+        cells, log = [LENT], [LENT] * 4
+        checks.equal(model.run_foreign(plan, cells, log), expected, "runner")
+        checks.equal((cells, log), ([LENT], [LENT] * 4),
+                     f"buffers after {expected}")
+    checks.equal(model.run_foreign([wrong, wrong], [], []), Refusal(9, 1),
+                 "9 before 7")
+    log = [LENT]
+    checks.equal(model.run_foreign([], [], log), PlanRan(0, 0), "empty plan")
+    checks.equal(log, [LENT], "log of an empty plan")
+    checks.equal(model.run_foreign([header], [], log), PlanRan(0, 1),
+                 "header alone")
+    checks.equal(log, [header], "log of a header alone")
+
+
+def random_operation(rng, cell_count):
+    """An operation the runner takes on so many cells."""
+    op = rng.randrange(8)
+    d, a, b = (rng.randrange(cell_count) for _ in range(3))
+    if op == SET:
+        return op, d, rng.randrange(1 << 20), rng.randrange(1 << 20)
+    if op == COPY:
+        return op, d, a, 0
+    if op == OPEN:
+        return op, 0, a, 0
+    return op, d, a, b
+
+
+def without_published(log):
+    """The words of a log that are not published cells."""
+    kept, published = list(log[:1]), False
+    for word in log[1:]:
+        if published:
+            published = False
+            continue
+        kept.append(word)
+        published = model.split_operation(word).op == OPEN
+    return kept
+
+
+def check_foreign_random(checks, rng):
+    """Random foreign plans: log, rounds and replay."""
+    count = rng.randrange(1, 6)
+    start = [rng.choice((0, 1, -1, MOST_CELL, -MOST_CELL - 1,
+                         rng.randrange(-9, 10))) for _ in range(count)]
+    operations = [random_operation(rng, count)
+                  for _ in range(rng.randrange(1, 30))]
+    plan = [rng.getrandbits(64), *map(model.join_operation, operations)]
+    cells, log = list(start), [LENT] * 99
+    ran = model.run_foreign(plan, cells, log)
+    checks.equal(ran.rounds, sum(model.ROUNDS[op] for op, *_ in operations),
+                 "rounds of a foreign plan")
+    checks.equal(log[ran.log_length:], [LENT] * (99 - ran.log_length),
+                 "log beyond a foreign plan")
+    log = log[:ran.log_length]
+    checks.equal(without_published(log), plan, "log without published words")
+    checks.holds(model.replay(log, start), "replay goes to the end")
+    checks.equal(start, cells, "cells of a replayed foreign plan")
+
+
+def check_replay_ends(checks):
+    """Published words are passed over; a bad word ends a replay."""
+    opening = model.join_operation((OPEN, 0, 0, 0))
+    one = model.join_operation((SET, 0, 0, 1))
+    beyond = model.join_operation((SET, 1, 0, 1))
+    wrong = model.join_operation((8, 0, 0, 0))
+    for log, ended, left in (([wrong, opening, wrong, one], False, 1),
+                             ([wrong, opening, one], False, 0),
+                             ([0, wrong, one], True, 0),
+                             ([0, one, beyond], True, 1)):
+        cells = [0]
+        checks.equal(model.replay(log, cells), not ended, "end of a replay")
+        checks.equal(cells, [left], "cells of a replay")
+
+
+# Random requests
+
+def random_lanes(rng, n, m, kind):
+    """Random lanes of method 1, of one of four kinds of prices."""
+    lowest, highest = ((-4, 9), (0, 2), (-1_000_000, 1_000_000), (-1, 4))[kind]
+    return [(rng.randrange(n), rng.randrange(n), rng.randint(lowest, highest))
+            for _ in range(m)]
+
+
+def random_table(rng, n, kind):
+    """Random lanes of method 2, of one of four kinds of prices."""
+    highest = (2, 9, 100, 1_000_000)[kind]
+    share = rng.choice((0.2, 0.5, 1.0))
+    return [(u, v, rng.randint(0, highest)) for u in range(n) for v in range(n)
+            if rng.random() < share]
+
+
+def random_network(rng, method, n, m, source):
+    """A random network with this public part."""
+    kind = rng.randrange(4)
+    lanes = (random_lanes(rng, n, m, kind) if method == 1
+             else random_table(rng, n, kind))
+    return Network(method, n, source, lanes)
+
+
+def check_random_run(checks, case):
+    """One random request against everything; its log and verdict."""
+    header = network.header_of(case)
+    finished = network.run(case, SURPLUS, LENT)
+    length = model.log_length(header)
+    log = finished.log[:length]
+    checks.equal(finished.answer[:2], (rounds_by_formula(header), length),
+                 f"rounds and log length of {case}")
+    checks.holds(network.agrees_with_walks(case, finished),
+                 f"walks of {case}")
+    checks.equal(without_published(log), model.plan_words(header),
+                 f"log of {case}")
+    bank = list(finished.start)
+    checks.holds(model.replay(log, bank), f"replay of {case} to the end")
+    checks.equal(bank, finished.cells, f"cells left by {case}")
+    for name in ("cells", "log", "distances", "parents"):
+        checks.equal(getattr(finished, name)[-SURPLUS:], [LENT] * SURPLUS,
+                     f"{name} beyond the needed part of {case}")
+    return log, finished.answer.verdict
+
+
+def check_random_pair(checks, rng, method):
+    """Two random requests with the same public part; their verdicts."""
+    n = rng.randint(1, 6)
+    m, source = rng.randint(0, 10), rng.randrange(n)
+    pair = [random_network(rng, method, n, m, source) for _ in range(2)]
+    (log, verdict), (other_log, other_verdict) = \
+        [check_random_run(checks, case) for case in pair]
+    checks.equal(log == other_log, verdict == other_verdict,
+                 f"logs alike exactly when verdicts agree, {pair}")
+    return verdict, other_verdict
+
+
+def check_random(checks):
+    """Random requests of both methods and random foreign plans."""
+    rng = random.Random(SEED)
+    verdicts = []
+    for _ in range(RANDOM_PAIRS):
+        verdicts += check_random_pair(checks, rng, 1)
+        check_random_pair(checks, rng, 2)
+    checks.holds(min(verdicts.count(0), verdicts.count(1)) >= 50,
+                 "both verdicts are common among the random requests")
+    for _ in range(RANDOM_PLANS):
+        check_foreign_random(checks, rng)
+
+
+def main():
+    """Carry out all checks and print how many there were."""
+    checks = Checks()
+    for check in (check_edge_plan, check_edge_printed, check_edge_method_1,
+                  check_edge_method_2, check_edge_limits, check_edge_cells,
+                  check_fields, check_lengths, check_spelled_plans,
+                  check_figures_lanes, check_order_method_1,
+                  check_order_method_2, check_desk, check_plan_writer,
+                  check_foreign_words, check_foreign_order, check_replay_ends,
+                  check_random):
+        check(checks)
+    print(f"model: {checks.count} checks passed")
+
+
+if __name__ == "__main__":
+    main()

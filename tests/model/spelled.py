@@ -1,0 +1,130 @@
+"""Two small plans spelled out by hand, one operation a line.
+
+A line is the operation's name, the cell written and the operands, as document
+01 reads them: `EQUAL X+5 from+0 Y+1` is EQUAL X+5 (from 0, Y+1).  SET has its
+number for an operand, OPEN only the cell published.
+"""
+
+NAMES = ("SET", "COPY", "ADD", "LESS", "EQUAL", "BOTH", "MOVEIF", "OPEN")
+
+# Method 1, two yards, one lane, source 0: the cells are 17.
+PLACES_1 = {"from": 0, "to": 1, "price": 2, "D": 3, "P": 5, "Y": 7, "X": 9}
+PLAN_1 = """
+SET Y+0 0
+SET D+0 0
+SET P+0 -1
+SET Y+1 1
+SET D+1 274877906944
+SET P+1 -1
+SET X+0 274877906944
+SET X+7 0
+COPY X+1 X+0
+EQUAL X+5 from+0 Y+0
+MOVEIF X+1 X+5 D+0
+EQUAL X+5 from+0 Y+1
+MOVEIF X+1 X+5 D+1
+ADD X+2 X+1 price+0
+LESS X+4 X+1 X+0
+SET X+3 0
+EQUAL X+5 to+0 Y+0
+LESS X+6 X+2 D+0
+BOTH X+6 X+6 X+4
+BOTH X+6 X+6 X+5
+MOVEIF D+0 X+6 X+2
+MOVEIF P+0 X+6 X+3
+EQUAL X+5 to+0 Y+1
+LESS X+6 X+2 D+1
+BOTH X+6 X+6 X+4
+BOTH X+6 X+6 X+5
+MOVEIF D+1 X+6 X+2
+MOVEIF P+1 X+6 X+3
+COPY X+1 X+0
+EQUAL X+5 from+0 Y+0
+MOVEIF X+1 X+5 D+0
+EQUAL X+5 from+0 Y+1
+MOVEIF X+1 X+5 D+1
+ADD X+2 X+1 price+0
+LESS X+4 X+1 X+0
+EQUAL X+5 to+0 Y+0
+LESS X+6 X+2 D+0
+BOTH X+6 X+6 X+4
+BOTH X+6 X+6 X+5
+MOVEIF X+7 X+6 X+6
+EQUAL X+5 to+0 Y+1
+LESS X+6 X+2 D+1
+BOTH X+6 X+6 X+4
+BOTH X+6 X+6 X+5
+MOVEIF X+7 X+6 X+6
+OPEN X+7
+"""
+
+# Method 2, two yards, source 1: the cells are 20, the turn comes twice.
+PLACES_2 = {"U": 0, "D": 4, "P": 6, "Y": 8, "O": 10, "R": 12, "X": 14}
+OPENING_2 = """
+SET Y+0 0
+SET D+0 274877906944
+SET P+0 -1
+SET O+0 1
+SET Y+1 1
+SET D+1 0
+SET P+1 -1
+SET O+1 1
+SET X+0 274877906944
+SET X+4 0
+"""
+TURN_2 = """
+COPY X+1 X+0
+SET X+3 -1
+LESS X+5 D+0 X+1
+BOTH X+5 X+5 O+0
+MOVEIF X+1 X+5 D+0
+MOVEIF X+3 X+5 Y+0
+LESS X+5 D+1 X+1
+BOTH X+5 X+5 O+1
+MOVEIF X+1 X+5 D+1
+MOVEIF X+3 X+5 Y+1
+COPY R+0 X+0
+COPY R+1 X+0
+EQUAL X+5 X+3 Y+0
+MOVEIF O+0 X+5 X+4
+MOVEIF R+0 X+5 U+0
+MOVEIF R+1 X+5 U+1
+EQUAL X+5 X+3 Y+1
+MOVEIF O+1 X+5 X+4
+MOVEIF R+0 X+5 U+2
+MOVEIF R+1 X+5 U+3
+ADD X+2 X+1 R+0
+LESS X+5 X+2 D+0
+MOVEIF D+0 X+5 X+2
+MOVEIF P+0 X+5 X+3
+ADD X+2 X+1 R+1
+LESS X+5 X+2 D+1
+MOVEIF D+1 X+5 X+2
+MOVEIF P+1 X+5 X+3
+"""
+PLAN_2 = OPENING_2 + TURN_2 * 2
+
+
+def cell(name, places):
+    """The number of a cell spelled like X+5."""
+    base, offset = name.split("+")
+    return places[base] + int(offset)
+
+
+def operation(line, places):
+    """The operation of one line, as (op, d, a, b)."""
+    name, first, *rest = line.split()
+    op = NAMES.index(name)
+    if name == "SET":
+        number = int(rest[0]) % (1 << 40)
+        return op, cell(first, places), number >> 20, number % (1 << 20)
+    if name == "OPEN":
+        return op, 0, cell(first, places), 0
+    d, a, b = [cell(operand, places) for operand in (first, *rest)] \
+        + ([0] if name == "COPY" else [])
+    return op, d, a, b
+
+
+def operations(plan, places):
+    """The operations of a plan spelled out."""
+    return [operation(line, places) for line in plan.split("\n") if line]

@@ -1,0 +1,487 @@
+"""Tests tools/request.py and tools/log.py with document 01's own words and figures.
+
+The plans that log.py is shown are written here a second time, from document 01's lines, so that its listing and its rounds are
+held against figures the document prints.
+"""
+
+import contextlib
+import io
+import random
+import subprocess
+import sys
+import tempfile
+import unittest
+from pathlib import Path
+
+TOOLS = Path(__file__).resolve().parents[2] / "tools"
+sys.path.insert(0, str(TOOLS))
+
+import log  # noqa: E402
+import request  # noqa: E402
+
+PRINTED_TEXT = "method 1\nyards 2\nsource 0\nlane 0 1 -5\n"
+PRINTED_WORDS = [0x1000020000100000, 0x00010000FFFFFFFB]
+
+EDGE_1_PLAN = [
+    0x1000010000000000,
+    0x0000020000000000,
+    0x0000000000000000,
+    0x000001FFFFFFFFFF,
+    0x0000034000000000,
+    0x00000A0000000000,
+    0x7000000000A00000,
+]
+EDGE_1_LOG = EDGE_1_PLAN + [0]
+
+SET, COPY, ADD, LESS, EQUAL, BOTH, MOVEIF, OPEN = range(8)
+FAR = 2**38
+
+
+def word(first, second=0, third=0, fourth=0):
+    """A header or operation word: fields of 4, 20, 20 and 20 bits."""
+    return first << 60 | second << 40 | third << 20 | fourth
+
+
+def put(d, number):
+    """The word that sets cell d to a number."""
+    return word(SET, d) | number % 2**40
+
+
+def opening(n, source, D, P, Y):
+    """For each vertex, the words that set its name, its distance and its parent."""
+    return [[put(Y + v, v), put(D + v, 0 if v == source else FAR), put(P + v, -1)] for v in range(n)]
+
+
+def plan_of_method_1(n, m, source):
+    """Document 01's plan of method 1."""
+    D, P, Y, X = 3 * m, 3 * m + n, 3 * m + 2 * n, 3 * m + 3 * n
+    words = [word(1, n, m, source)] + sum(opening(n, source, D, P, Y), []) + [put(X, FAR), put(X + 7, 0)]
+    for turn in range(n):
+        is_check = turn == n - 1
+        for i in range(m):
+            words.append(word(COPY, X + 1, X))
+            for v in range(n):
+                words += [word(EQUAL, X + 5, i, Y + v), word(MOVEIF, X + 1, X + 5, D + v)]
+            words += [word(ADD, X + 2, X + 1, 2 * m + i), word(LESS, X + 4, X + 1, X)]
+            words += [] if is_check else [put(X + 3, i)]
+            for v in range(n):
+                words += [word(EQUAL, X + 5, m + i, Y + v), word(LESS, X + 6, X + 2, D + v)]
+                words += [word(BOTH, X + 6, X + 6, X + 4), word(BOTH, X + 6, X + 6, X + 5)]
+                if is_check:
+                    words.append(word(MOVEIF, X + 7, X + 6, X + 6))
+                else:
+                    words += [word(MOVEIF, D + v, X + 6, X + 2), word(MOVEIF, P + v, X + 6, X + 3)]
+    return words + [word(OPEN, 0, X + 7)]
+
+
+def plan_of_method_2(n, source):
+    """Document 01's plan of method 2."""
+    D, P, Y, O, R, X = (n * n + k * n for k in range(6))
+    words = [word(2, n, 0, source)]
+    for v, settings in enumerate(opening(n, source, D, P, Y)):
+        words += settings + [put(O + v, 1)]
+    words += [put(X, FAR), put(X + 4, 0)]
+    for _ in range(n):
+        words += [word(COPY, X + 1, X), put(X + 3, -1)]
+        for v in range(n):
+            words += [word(LESS, X + 5, D + v, X + 1), word(BOTH, X + 5, X + 5, O + v)]
+            words += [word(MOVEIF, X + 1, X + 5, D + v), word(MOVEIF, X + 3, X + 5, Y + v)]
+        words += [word(COPY, R + j, X) for j in range(n)]
+        for v in range(n):
+            words += [word(EQUAL, X + 5, X + 3, Y + v), word(MOVEIF, O + v, X + 5, X + 4)]
+            words += [word(MOVEIF, R + j, X + 5, v * n + j) for j in range(n)]
+        for j in range(n):
+            words += [word(ADD, X + 2, X + 1, R + j), word(LESS, X + 5, X + 2, D + j)]
+            words += [word(MOVEIF, D + j, X + 5, X + 2), word(MOVEIF, P + j, X + 5, X + 3)]
+    return words
+
+
+def as_bytes(words):
+    """The words as files hold them."""
+    return b"".join(value.to_bytes(8, "big") for value in words)
+
+
+def as_hex(words):
+    """The words as hexadecimal text, one a line."""
+    return "".join(f"{value:016X}\n" for value in words).encode()
+
+
+def run(tool, *arguments):
+    """Exit status, standard output and standard error of a tool's main function."""
+    output, errors = io.StringIO(), io.StringIO()
+    with contextlib.redirect_stdout(output), contextlib.redirect_stderr(errors):
+        status = tool.main([str(argument) for argument in arguments])
+    return status, output.getvalue(), errors.getvalue()
+
+
+class WithFolder(unittest.TestCase):
+    """Tests that write files, into a folder that goes away after each."""
+
+    def setUp(self):
+        folder = tempfile.TemporaryDirectory()
+        self.addCleanup(folder.cleanup)
+        self.folder = Path(folder.name)
+
+    def file(self, name, data):
+        """The path of a new file with these bytes."""
+        path = self.folder / name
+        path.write_bytes(data)
+        return path
+
+
+class RequestWords(unittest.TestCase):
+    """Texts and the words they stand for."""
+
+    def words(self, text, unchecked=False):
+        return request.request_words(text, unchecked)
+
+    def test_printed_request(self):
+        self.assertEqual(self.words(PRINTED_TEXT), PRINTED_WORDS)
+
+    def test_comments_blanks_order_and_line_ends(self):
+        text = "# a network\r\n\r\n  lane 0 1 -5 # a rebate\r\nsource 0\r\n\tyards   2\r\nmethod 1"
+        self.assertEqual(self.words(text), PRINTED_WORDS)
+
+    def test_edge_1_no_lanes(self):
+        self.assertEqual(self.words("method 1\nyards 1\nsource 0\n"), EDGE_1_PLAN[:1])
+
+    def test_edge_3_a_lane_to_its_own_yard(self):
+        text = "method 1\nyards 1\nsource 0\nlane 0 0 "
+        self.assertEqual(self.words(text + "-1"), [0x1000010000100000, 0x00000000FFFFFFFF])
+        self.assertEqual(self.words(text + "0"), [0x1000010000100000, 0])
+
+    def test_edge_6_no_lane_anywhere(self):
+        expected = [0x2000020000000000] + [0x00000000FFFFFFFF] * 4
+        self.assertEqual(self.words("method 2\nyards 2\nsource 0\nrow - -\nrow - -1\n"), expected)
+
+    def test_table_goes_by_rows(self):
+        expected = [0x2000020000000001, 0, 7, 0x00000000FFFFFFFF, 1_000_000]
+        self.assertEqual(self.words("method 2\nyards 2\nsource 1\nrow 0 7\nrow - 1000000\n"), expected)
+
+    def test_ends_of_the_ranges(self):
+        lanes = "lane 31 0 -1000000\n" * 64 + "lane 0 31 1000000\n" * 64
+        expected = [word(1, 32, 128, 31)] + [0x1F000000FFF0BDC0] * 64 + [0x001F0000000F4240] * 64
+        self.assertEqual(self.words("method 1\nyards 32\nsource 31\n" + lanes), expected)
+
+    def test_unchecked_makes_refused_requests(self):
+        yards_33 = "method 1\nyards 33\nsource 0\n"
+        self.assertEqual(self.words(yards_33, True), [word(1, 33)])
+        lanes_129 = "method 1\nyards 1\nsource 0\n" + "lane 0 0 0\n" * 129
+        self.assertEqual(self.words(lanes_129, True), [word(1, 1, 129)] + [0] * 129)
+        price_over = "method 1\nyards 1\nsource 0\nlane 0 0 1000001\n"
+        self.assertEqual(self.words(price_over, True), [word(1, 1, 1), 1_000_001])
+        all_wrong = "method 15\nyards 0\nsource 1048575\nlane 255 255 -2147483648\n"
+        self.assertEqual(self.words(all_wrong, True), [0xF0000000001FFFFF, 0xFFFF000080000000])
+
+    def test_unchecked_takes_the_body_as_it_stands(self):
+        lane_in_a_table = "method 2\nyards 2\nsource 0\nrow 0 - -2\nlane 1 0 3\n"
+        expected = [word(2, 2, 1), 0, 0xFFFFFFFF, 0xFFFFFFFE, 0x0100000000000003]
+        self.assertEqual(self.words(lane_in_a_table, True), expected)
+        row_after_a_lane = "method 1\nyards 1\nsource 0\nlane 0 0 3\nrow 4\n"
+        self.assertEqual(self.words(row_after_a_lane, True), [word(1, 1, 1), 3, 4])
+
+    def test_round_trip_of_random_networks(self):
+        chance = random.Random(1)
+        for _ in range(20):
+            n = chance.randint(1, 32)
+            edges = [
+                (chance.randrange(n), chance.randrange(n), chance.randint(-1_000_000, 1_000_000))
+                for _ in range(chance.randint(0, 128))
+            ]
+            source = chance.randrange(n)
+            lanes = "".join("lane {} {} {}\n".format(*edge) for edge in edges)
+            header, *body = self.words(f"method 1\nyards {n}\nsource {source}\n{lanes}")
+            self.assertEqual(header, word(1, n, len(edges), source))
+            read_back = [
+                (data[0], data[1], int.from_bytes(data[4:], "big", signed=True)) for data in map(as_bytes, zip(body))
+            ]
+            self.assertEqual(read_back, edges)
+
+
+class RequestMessages(WithFolder):
+    """Every complaint of request.py, once."""
+
+    HEADER_1 = "method 1\nyards 2\nsource 0\n"
+    HEADER_2 = "method 2\nyards 2\nsource 0\n"
+
+    def complaint(self, text, *options):
+        """What request.py says of a bad text; it must write nothing and end with status 1."""
+        output = self.folder / "request"
+        status, _, errors = run(request, self.file("text", text.encode()), "-o", output, *options)
+        self.assertEqual(status, 1)
+        self.assertFalse(output.exists())
+        return errors
+
+    def test_each_complaint(self):
+        cases = {
+            "method 1\nyard 2\n": "line 2: unknown word `yard`, expected one of method, yards, source, lane, row",
+            "method 1\nyards\n": "line 2: wrong number of values after `yards` (0), expected `yards NUMBER`",
+            self.HEADER_1 + "lane 0 1\n": "line 4: wrong number of values after `lane` (2), "
+            "expected `lane FROM-YARD TO-YARD PRICE`",
+            "": "after line 0: the text has no `method`, expected a line `method NUMBER`",
+            "method 1\nsource 0\n": "after line 2: the text has no `yards`, expected a line `yards NUMBER`",
+            "method 1\n\nyards 1\n": "after line 3: the text has no `source`, expected a line `source YARD`",
+            self.HEADER_1 + "method 1\n": "line 4: `method` was given on line 1, expected it once",
+            self.HEADER_1 + "yards 2\n": "line 4: `yards` was given on line 2, expected it once",
+            self.HEADER_1 + "source 0\n": "line 4: `source` was given on line 3, expected it once",
+            "method one\n": "line 1: method `one` is no number, expected 1 to 2",
+            "method 3\n": "line 1: method 3 is out of range, expected 1 to 2",
+            "method 1\nyards 0\n": "line 2: yards 0 is out of range, expected 1 to 32",
+            "method 1\nyards 33\n": "line 2: yards 33 is out of range, expected 1 to 32",
+            "method 1\nyards 2\nsource 2\n": "line 3: source 2 is out of range, expected 0 to 1",
+            self.HEADER_1 + "lane 2 0 0\n": "line 4: from-yard 2 is out of range, expected 0 to 1",
+            self.HEADER_1 + "lane 0 -1 0\n": "line 4: to-yard -1 is out of range, expected 0 to 1",
+            self.HEADER_1 + "lane 0 1 1e3\n": "line 4: price `1e3` is no number, expected -1000000 to 1000000",
+            self.HEADER_1 + "lane 0 1 1000001\n": "line 4: price 1000001 is out of range, expected -1000000 to 1000000",
+            self.HEADER_1 + "lane 0 1 -\n": "line 4: price `-` is no number, expected -1000000 to 1000000",
+            self.HEADER_1 + "lane 0 1 " + "9" * 5000: f"line 4: price {'9' * 5000} is out of range, "
+            "expected -1000000 to 1000000",
+            self.HEADER_1 + "lane 0 1 0\n" * 129: "line 132: one lane too many, expected at most 128 lanes",
+            self.HEADER_1 + "row 0 0\n": "line 4: `row` in method 1, expected `lane FROM-YARD TO-YARD PRICE`",
+            self.HEADER_2 + "lane 0 1 0\n": "line 4: `lane` in method 2, expected `row PRICE PRICE ..`",
+            self.HEADER_2 + "row 0\nrow 0 0\n": "line 4: wrong number of prices in the row (1), "
+            "expected 2, one for each yard",
+            self.HEADER_2 + "row 0 0\n" * 3: "line 6: one row too many, expected 2, one for each yard",
+            self.HEADER_2 + "row 0 0\n": "after line 4: too few rows (1), expected 2, one for each yard",
+            self.HEADER_2 + "row 0 -2\nrow 0 0\n": "line 4: price -2 is out of range, "
+            "expected -1 to 1000000 (-1 or - for no lane)",
+            self.HEADER_2 + "row 0 0\nrow 0 x\n": "line 5: price `x` is no number, "
+            "expected -1 to 1000000 (-1 or - for no lane)",
+        }
+        for text, message in cases.items():
+            with self.subTest(message):
+                self.assertEqual(self.complaint(text), f"request.py: {message}\n")
+
+    def test_each_complaint_when_unchecked(self):
+        cases = {
+            "method 16\n": "line 1: method 16 is out of range, expected 0 to 15 (4 bits)",
+            "method 1\nyards 1048576\n": "line 2: yards 1048576 is out of range, expected 0 to 1048575 (20 bits)",
+            "method 1\nyards 1\nsource -1\n": "line 3: source -1 is out of range, expected 0 to 1048575 (20 bits)",
+            self.HEADER_1 + "lane 256 0 0\n": "line 4: from-yard 256 is out of range, expected 0 to 255 (8 bits)",
+            self.HEADER_2 + "row 2147483648\n": "line 4: price 2147483648 is out of range, "
+            "expected -2147483648 to 2147483647 (32 bits)",
+            "yards 1\n": "after line 1: the text has no `method`, expected a line `method NUMBER`",
+        }
+        for text, message in cases.items():
+            with self.subTest(message):
+                self.assertEqual(self.complaint(text, "--unchecked"), f"request.py: {message}\n")
+
+    def test_files_that_cannot_be_used(self):
+        missing = self.folder / "missing"
+        status, _, errors = run(request, missing)
+        self.assertEqual((status, errors), (1, f"request.py: [Errno 2] No such file or directory: '{missing}'\n"))
+        text = self.file("text", PRINTED_TEXT.encode())
+        status, _, errors = run(request, text, "-o", self.folder)
+        self.assertEqual((status, errors), (1, f"request.py: [Errno 21] Is a directory: '{self.folder}'\n"))
+
+
+class RequestCommand(WithFolder):
+    """The ways in and out of request.py."""
+
+    def test_standard_input_to_standard_output(self):
+        command = [sys.executable, TOOLS / "request.py"]
+        done = subprocess.run(command, input=PRINTED_TEXT.encode(), capture_output=True, check=True)
+        self.assertEqual((done.stdout, done.stderr), (as_bytes(PRINTED_WORDS), b""))
+
+    def test_hexadecimal_to_standard_output(self):
+        command = [sys.executable, TOOLS / "request.py", self.file("text", PRINTED_TEXT.encode()), "--hex"]
+        done = subprocess.run(command, stdin=subprocess.DEVNULL, capture_output=True, check=True)
+        self.assertEqual((done.stdout, done.stderr), (b"1000020000100000\n00010000FFFFFFFB\n", b""))
+
+    def test_output_file(self):
+        text, output = self.file("text", PRINTED_TEXT.encode()), self.folder / "request"
+        self.assertEqual(run(request, text, "-o", output), (0, "", ""))
+        self.assertEqual(output.read_bytes(), as_bytes(PRINTED_WORDS))
+
+
+class Listing(WithFolder):
+    """What `log.py list` prints."""
+
+    def listing(self, words, *options):
+        """The lines that are printed for these words, the same from bytes and from hexadecimal text."""
+        from_bytes = run(log, "list", self.file("log", as_bytes(words)), *options)
+        from_hex = run(log, "list", "--hex", self.file("log.hex", as_hex(words)), *options)
+        self.assertEqual(from_bytes, from_hex)
+        status, output, errors = from_bytes
+        self.assertEqual((status, errors), (0, ""))
+        return output.splitlines()
+
+    def meanings(self, words, *options):
+        """The listing of an edge request's header and these words, without the header's line, places and hexadecimal digits."""
+        return [line[27:] for line in self.listing(EDGE_1_PLAN[:1] + words, *options)[1:-1]]
+
+    def test_edge_1_log(self):
+        expected = [
+            "      0  1000010000000000  header method=1 yards=1 lanes=0 source=0",
+            "      1  0000020000000000  SET [2] <- 0",
+            "      2  0000000000000000  SET [0] <- 0",
+            "      3  000001FFFFFFFFFF  SET [1] <- -1",
+            "      4  0000034000000000  SET [3] <- 274877906944",
+            "      5  00000A0000000000  SET [10] <- 0",
+            "      6  7000000000A00000  OPEN [10]",
+            "      7  0000000000000000  published 0",
+            "rounds 6",
+        ]
+        self.assertEqual(self.listing(EDGE_1_LOG), expected)
+
+    def test_edge_1_plan(self):
+        self.assertEqual(plan_of_method_1(1, 0, 0), EDGE_1_PLAN)
+        self.assertEqual(self.listing(EDGE_1_PLAN, "--plan"), self.listing(EDGE_1_LOG)[:7] + ["rounds 6"])
+
+    def test_every_operation(self):
+        words = [word(op, 1, 2, 3) for op in (SET, ADD, LESS, EQUAL, BOTH, MOVEIF)]
+        words += [word(COPY, 1, 2), word(OPEN, 0, 2), 2**64 - 5]
+        expected = [
+            "SET [1] <- 2097155",
+            "ADD [1] <- [2] + [3]",
+            "LESS [1] <- [2] < [3]",
+            "EQUAL [1] <- [2] = [3]",
+            "BOTH [1] <- [2] and [3]",
+            "MOVEIF [1] <- [3] if [2]",
+            "COPY [1] <- [2]",
+            "OPEN [2]",
+            "published -5",
+        ]
+        self.assertEqual(self.meanings(words), expected)
+        self.assertEqual(self.listing(EDGE_1_PLAN[:1] + words)[-1], "rounds 16")
+
+    def test_edge_10_least_number_of_set(self):
+        self.assertEqual(self.meanings([word(SET, 0, 524_288, 0)]), ["SET [0] <- -549755813888"])
+
+    def test_plan_goes_on_after_open(self):
+        words = [word(OPEN), word(OPEN), word(OPEN)]
+        self.assertEqual(self.meanings(words, "--plan"), ["OPEN [0]", "OPEN [0]", "OPEN [0]"])
+        self.assertEqual(self.meanings(words), ["OPEN [0]", "published 8070450532247928832", "OPEN [0]"])
+
+    def test_header_is_no_operation(self):
+        self.assertEqual(self.listing([word(OPEN)] * 2)[-1], "rounds 1")
+
+    def test_no_instruction(self):
+        words = [word(LESS, 1, 2, 3), word(9, 1), word(OPEN, 0, 4), 0]
+        expected = ["LESS [1] <- [2] < [3]", "no instruction: op 9 is over 7", "OPEN [4]", "published 0"]
+        self.assertEqual(self.meanings(words), expected)
+        self.assertEqual(self.listing(EDGE_1_PLAN[:1] + words)[-1], "rounds 6")
+
+    def test_fields_that_should_be_zero(self):
+        words = [word(COPY, 1, 2, 3), word(OPEN, 1, 2, 3)]
+        expected = ["COPY [1] <- [2] (b is 3, expected 0)", "OPEN [2] (d is 1, expected 0) (b is 3, expected 0)"]
+        self.assertEqual(self.meanings(words), expected)
+
+    def test_empty_log(self):
+        self.assertEqual(self.listing([]), ["rounds 0"])
+
+    def test_rounds_and_lengths_of_document_01(self):
+        figures = [
+            (plan_of_method_1(2, 1, 0), 47, 112),  # edge 2, the printed request
+            (plan_of_method_1(1, 1, 0), 17, 34),  # edge 3, by the formulas of method 1
+            (plan_of_method_2(2, 0), 67, 116),  # edge 6
+            (plan_of_method_2(1, 0), 21, 32),  # edge 7
+        ]
+        for plan, length, rounds in figures:
+            lines = self.listing(plan, "--plan")
+            self.assertEqual((len(lines) - 1, lines[-1]), (length, f"rounds {rounds}"))
+
+    def test_largest_rounds_of_method_2(self):
+        plan = plan_of_method_2(32, 0)
+        self.assertEqual((len(plan), log.rounds_of(plan, is_plan=True)), (44_227, 57_506))
+
+
+class Comparison(WithFolder):
+    """What `log.py compare` prints."""
+
+    def comparison(self, first, second, *options):
+        """Exit status and lines of a comparison, the same from bytes and from hexadecimal text."""
+        from_bytes = run(log, "compare", self.file("A", as_bytes(first)), self.file("B", as_bytes(second)), *options)
+        hex_files = self.file("A.hex", as_hex(first)), self.file("B.hex", as_hex(second).lower())
+        self.assertEqual(from_bytes, run(log, "compare", "--hex", *hex_files, *options))
+        status, output, errors = from_bytes
+        self.assertEqual(errors, "")
+        return status, output.splitlines()
+
+    def test_equal(self):
+        self.assertEqual(self.comparison(EDGE_1_LOG, EDGE_1_LOG), (0, ["equal, 8 words"]))
+        self.assertEqual(self.comparison([], []), (0, ["equal, 0 words"]))
+
+    def test_header(self):
+        expected = [
+            "differ at place 0, in the header",
+            "A  1000010000000000  header method=1 yards=1 lanes=0 source=0",
+            "B  2000010000000000  header method=2 yards=1 lanes=0 source=0",
+        ]
+        self.assertEqual(self.comparison(EDGE_1_LOG, plan_of_method_2(1, 0)), (1, expected))
+
+    def test_operation(self):
+        other = EDGE_1_LOG[:3] + [word(COPY, 1, 2)] + EDGE_1_LOG[4:]
+        expected = [
+            "differ at place 3, in an operation",
+            "A  000001FFFFFFFFFF  SET [1] <- -1",
+            "B  1000010000200000  COPY [1] <- [2]",
+        ]
+        self.assertEqual(self.comparison(EDGE_1_LOG, other), (1, expected))
+
+    def test_edge_3_differs_in_the_published_word(self):
+        plan = plan_of_method_1(1, 1, 0)
+        expected = [
+            "differ at place 17, in a published word",
+            "A  0000000000000001  published 1",
+            "B  0000000000000000  published 0",
+        ]
+        self.assertEqual(self.comparison(plan + [1], plan + [0]), (1, expected))
+
+    def test_length(self):
+        expected = ["differ at place 7, only in length", "A  ends after 7 words", "B  0000000000000000  published 0"]
+        self.assertEqual(self.comparison(EDGE_1_PLAN, EDGE_1_LOG), (1, expected))
+        expected = [
+            "differ at place 0, only in length",
+            "A  1000010000000000  header method=1 yards=1 lanes=0 source=0",
+            "B  ends after 0 words",
+        ]
+        self.assertEqual(self.comparison(EDGE_1_LOG, []), (1, expected))
+
+    def test_plans(self):
+        expected = ["differ at place 7, in an operation", "A  0000000000000000  SET [0] <- 0", "B  7000000000000000  OPEN [0]"]
+        self.assertEqual(self.comparison(EDGE_1_PLAN + [0], EDGE_1_PLAN + [word(OPEN)], "--plan"), (1, expected))
+
+
+class LogMessages(WithFolder):
+    """Every complaint of log.py, once."""
+
+    def assert_complaint(self, message, *arguments):
+        self.assertEqual(run(log, *arguments), (2, "", f"log.py: {message}\n"))
+
+    def test_broken_last_word(self):
+        path = self.file("log", as_bytes(EDGE_1_LOG)[:-3])
+        message = f"{path}: 61 bytes, expected a multiple of 8 (hexadecimal text needs --hex)"
+        self.assert_complaint(message, "list", path)
+        self.assert_complaint(message, "compare", self.file("A", as_bytes(EDGE_1_LOG)), path)
+
+    def test_unreadable_hexadecimal(self):
+        path = self.file("log", b"1000010000000000\n0000020000000000 00000200000000\n")
+        message = f"{path}: line 2: `00000200000000` is no word, expected 16 hexadecimal digits"
+        self.assert_complaint(message, "list", "--hex", path)
+        path = self.file("log", b"0x10000100000000\n")
+        message = f"{path}: line 1: `0x10000100000000` is no word, expected 16 hexadecimal digits"
+        self.assert_complaint(message, "list", "--hex", path)
+
+    def test_missing_file(self):
+        path = self.folder / "missing"
+        self.assert_complaint(f"{path}: cannot be read: No such file or directory", "list", path)
+
+    def test_no_command_line(self):
+        done = subprocess.run([sys.executable, TOOLS / "log.py"], capture_output=True, check=False)
+        self.assertEqual(done.returncode, 2)
+        self.assertIn(b"usage: log.py", done.stderr)
+
+
+class Together(WithFolder):
+    """A request that one tool writes, read by the other."""
+
+    def test_request_header_is_listed(self):
+        text, output = self.file("text", PRINTED_TEXT.encode()), self.folder / "request.hex"
+        self.assertEqual(run(request, text, "--hex", "-o", output), (0, "", ""))
+        _, listing, _ = run(log, "list", "--hex", output)
+        self.assertIn("      0  1000020000100000  header method=1 yards=2 lanes=1 source=0\n", listing)
+
+
+if __name__ == "__main__":
+    unittest.main()

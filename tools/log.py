@@ -1,0 +1,242 @@
+#!/usr/bin/env python3
+"""Lists a plan or a log as instructions, and compares two logs (document 01, "Cell words").
+
+A log is the header word and then every word carried out, each OPEN followed by the published cell as one word. A plan is the
+same without the published cells.
+"""
+
+import argparse
+import re
+import signal
+import struct
+import sys
+from itertools import islice
+from pathlib import Path
+from typing import NamedTuple
+
+DESCRIPTION = """\
+Lists a plan or a log of the cell machine as instructions, or compares two
+logs. A file holds words of eight bytes, most significant byte first; with
+--hex it is a text of words of 16 hexadecimal digits, with blanks or line ends
+between them."""
+
+LISTING_FORMAT = """\
+`list` prints a line a word: its place (the header's is 0), the word, and what
+it says. [k] is cell k.
+
+  header method=1 yards=2 lanes=1 source=0
+  SET [d] <- number        the number, written out
+  COPY [d] <- [a]
+  ADD [d] <- [a] + [b]
+  LESS [d] <- [a] < [b]    1 if so, else 0
+  EQUAL [d] <- [a] = [b]   1 if so, else 0
+  BOTH [d] <- [a] and [b]  1 if neither is 0, else 0
+  MOVEIF [d] <- [b] if [a]
+  OPEN [a]                 and in a log the word after it:
+  published 0              the cell that was opened
+  no instruction: op 9 is over 7
+
+A field that should be zero and is not is named at the end of its line. How
+many cells there are is not known here, so addresses are not tested. The last
+line is `rounds N`, the sum of the rounds column over the words carried out: a
+word that is no instruction would end the run, so only those before it count."""
+
+COMPARISON_FORMAT = """\
+`compare` prints `equal, N words`, exit status 0, or the first place at which A
+and B differ, in the header, an operation, a published word or only in length,
+with both words as `list` shows them, exit status 1.
+
+Bad input is said on standard error, exit status 2."""
+
+HEADER, OPERATION, PUBLISHED = "the header", "an operation", "a published word"
+
+
+class BadInput(Exception):
+    """A file that does not hold words."""
+
+
+class Operation(NamedTuple):
+    """A row of document 01's table of operations: rounds, how it is listed, and which of its fields have to be zero."""
+
+    rounds: int
+    form: str
+    zeros: str = ""
+
+
+OPERATIONS = (
+    Operation(1, "SET [{d}] <- {number}"),
+    Operation(0, "COPY [{d}] <- [{a}]", zeros="b"),
+    Operation(0, "ADD [{d}] <- [{a}] + [{b}]"),
+    Operation(6, "LESS [{d}] <- [{a}] < [{b}]"),
+    Operation(6, "EQUAL [{d}] <- [{a}] = [{b}]"),
+    Operation(1, "BOTH [{d}] <- [{a}] and [{b}]"),
+    Operation(1, "MOVEIF [{d}] <- [{b}] if [{a}]"),
+    Operation(1, "OPEN [{a}]", zeros="db"),
+)
+OPEN = 7
+
+
+def op_of(word):
+    """The op of an operation word."""
+    return word >> 60
+
+
+def split(word):
+    """The four fields of a header or operation word: 4, 20, 20 and 20 bits, the most significant first."""
+    field = 2**20 - 1
+    return op_of(word), word >> 40 & field, word >> 20 & field, word & field
+
+
+def signed(value, width):
+    """The number that the lowest `width` bits stand for in two's complement."""
+    return value - 2**width if value >> (width - 1) else value
+
+
+def roles(words, is_plan):
+    """What each word is: the header, an operation, or the cell that the OPEN before it published."""
+    role = HEADER
+    for word in words:
+        yield role
+        opens = role == OPERATION and op_of(word) == OPEN
+        role = PUBLISHED if opens and not is_plan else OPERATION
+
+
+def header_text(word):
+    """A header as it is listed."""
+    method, vertices, edges, source = split(word)
+    return f"header method={method} yards={vertices} lanes={edges} source={source}"
+
+
+def operation_text(word):
+    """An operation as it is listed, with a remark on each field that should be zero and is not."""
+    op, d, a, b = split(word)
+    if op >= len(OPERATIONS):
+        return f"no instruction: op {op} is over 7"
+    operation = OPERATIONS[op]
+    fields = {"d": d, "a": a, "b": b}
+    remarks = [f" ({name} is {fields[name]}, expected 0)" for name in operation.zeros if fields[name]]
+    return operation.form.format(number=signed(a << 20 | b, 40), **fields) + "".join(remarks)
+
+
+def word_text(word, role):
+    """A word as it is listed: in hexadecimal, and what it says."""
+    if role == HEADER:
+        meaning = header_text(word)
+    elif role == PUBLISHED:
+        meaning = f"published {signed(word, 64)}"
+    else:
+        meaning = operation_text(word)
+    return f"{word:016X}  {meaning}"
+
+
+def rounds_of(words, is_plan):
+    """The plain sum of the rounds column over the words carried out, which end before a word that is no instruction."""
+    total = 0
+    for word, role in zip(words, roles(words, is_plan)):
+        if role == OPERATION:
+            op = op_of(word)
+            if op >= len(OPERATIONS):
+                break
+            total += OPERATIONS[op].rounds
+    return total
+
+
+def print_listing(words, is_plan):
+    """Prints a line for each word and then the rounds."""
+    for place, (word, role) in enumerate(zip(words, roles(words, is_plan))):
+        print(f"{place:7}  {word_text(word, role)}")
+    print(f"rounds {rounds_of(words, is_plan)}")
+
+
+def first_difference(first, second):
+    """The lowest place at which the two differ or one has ended, or None when they are equal."""
+    for place, (left, right) in enumerate(zip(first, second)):
+        if left != right:
+            return place
+    return None if len(first) == len(second) else min(len(first), len(second))
+
+
+def print_comparison(first, second, is_plan):
+    """Prints whether the two are equal, else where and in what they first differ; says whether they are."""
+    place = first_difference(first, second)
+    if place is None:
+        print(f"equal, {len(first)} words")
+        return True
+    # Up to this place the two are equal, so the word there has the same role in both.
+    role = next(islice(roles(max(first, second, key=len), is_plan), place, None))
+    one_ended = place in (len(first), len(second))
+    print(f"differ at place {place}, {'only in length' if one_ended else f'in {role}'}")
+    for name, words in (("A", first), ("B", second)):
+        print(f"{name}  {word_text(words[place], role) if place < len(words) else f'ends after {place} words'}")
+    return False
+
+
+def words_of_bytes(data):
+    """The words of a file of eight bytes each."""
+    if len(data) % 8:
+        raise BadInput(f"{len(data)} bytes, expected a multiple of 8 (hexadecimal text needs --hex)")
+    return struct.unpack(f">{len(data) // 8}Q", data)
+
+
+def words_of_text(text):
+    """The words of a text of hexadecimal digits."""
+    words = []
+    for number, line in enumerate(text.split("\n"), start=1):
+        for digits in line.split():
+            if not re.fullmatch("[0-9A-Fa-f]{16}", digits):
+                raise BadInput(f"line {number}: `{digits}` is no word, expected 16 hexadecimal digits")
+            words.append(int(digits, 16))
+    return words
+
+
+def read_words(file, as_text):
+    """The words that the file holds; complaints begin with its name."""
+    try:
+        data = Path(file).read_bytes()
+        return words_of_text(data.decode("utf-8-sig", errors="replace")) if as_text else words_of_bytes(data)
+    except OSError as error:
+        raise BadInput(f"{file}: cannot be read: {error.strerror}") from error
+    except BadInput as error:
+        raise BadInput(f"{file}: {error}") from error
+
+
+def parse_arguments(arguments):
+    """The command line's options."""
+    layout = argparse.RawDescriptionHelpFormatter
+    common = argparse.ArgumentParser(add_help=False)
+    common.add_argument("--hex", action="store_true", help="the words are hexadecimal text, not bytes")
+    common.add_argument("--plan", action="store_true", help="what is read is a plan, not a log: it has no published words")
+
+    parser = argparse.ArgumentParser(
+        prog="log.py", description=DESCRIPTION, epilog=f"{LISTING_FORMAT}\n\n{COMPARISON_FORMAT}", formatter_class=layout
+    )
+    commands = parser.add_subparsers(dest="command", metavar="list | compare", required=True)
+    listing = commands.add_parser(
+        "list", parents=[common], help="list a plan or a log", epilog=LISTING_FORMAT, formatter_class=layout
+    )
+    listing.add_argument("file", metavar="FILE")
+    comparison = commands.add_parser(
+        "compare", parents=[common], help="compare two logs", epilog=COMPARISON_FORMAT, formatter_class=layout
+    )
+    comparison.add_argument("first", metavar="A")
+    comparison.add_argument("second", metavar="B")
+    return parser.parse_args(arguments)
+
+
+def main(arguments=None):
+    """Does what the command line asks and returns the exit status."""
+    options = parse_arguments(arguments)
+    try:
+        if options.command == "list":
+            print_listing(read_words(options.file, options.hex), options.plan)
+            return 0
+        first, second = (read_words(file, options.hex) for file in (options.first, options.second))
+        return 0 if print_comparison(first, second, options.plan) else 1
+    except BadInput as error:
+        print(f"log.py: {error}", file=sys.stderr)
+        return 2
+
+
+if __name__ == "__main__":
+    signal.signal(signal.SIGPIPE, signal.SIG_DFL)
+    sys.exit(main())
