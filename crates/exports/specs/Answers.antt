@@ -1,0 +1,38 @@
+-- Answers for callers that know only numbers (docs/CALLING.md), and what each call leaves in the lent memory: the outcome that `run`, `run_plan`
+-- and `write_plan` promise, by the same definitions. Rests on those.
+use mathlib.Core.Path.{_≡_}
+use mathlib.Core.List.{List, [], _∷_}
+use mathlib.Core.Option.{Option, none, some}
+use Prim.Native.Nat.{ℕ}
+use lib.IntN.{ℤ}
+use lib.ListN.{length, getD}
+use Rattle.planner.specs.Refusal.{Told}
+use Rattle.planner.specs.Written.{planRefusal, planWords, answerOf, bufferOf}
+use Rattle.runner.specs.Runner.{PlanOutcome}
+use Rattle.engine.specs.Run.{Outcome}
+
+-- Whether there is a place, and the place.
+abbrev pub placeNumbers : Option ℕ → (rest : List ℕ) → List ℕ
+placeNumbers none rest = 0 ∷ 0 ∷ rest
+placeNumbers (some place) rest = 1 ∷ place ∷ rest
+
+-- Six numbers: the refusal's, 0 where there is none; the place; and up to three values, 0 where there is none.
+abbrev pub numbersOf : Told → List ℕ
+numbersOf t =
+    t .number ∷ placeNumbers (t .place) (getD (t .values) 0 0 ∷ getD (t .values) 1 0 ∷ getD (t .values) 2 0 ∷ [])
+
+pub record LeftByRun (o : Outcome) (answer : List ℕ) (cells : List ℤ) (log : List ℕ) (distances parents : List ℤ) : Type 0 where
+  pub answers : answer ≡ numbersOf (o .answer)
+  pub cells-left : cells ≡ o .cells
+  pub log-left : log ≡ o .log
+  pub distances-left : distances ≡ o .distances
+  pub parents-left : parents ≡ o .parents
+
+pub record LeftByPlan (o : PlanOutcome) (answer : List ℕ) (cells : List ℤ) (log : List ℕ) : Type 0 where
+  pub answers : answer ≡ numbersOf (o .answer)
+  pub cells-left : cells ≡ o .cells
+  pub log-left : log ≡ o .log
+
+pub record LeftByWriting (header buffer answer after : List ℕ) : Type 0 where
+  pub answers : answer ≡ numbersOf (answerOf (planRefusal header (length buffer)) (planWords header))
+  pub leaves : after ≡ bufferOf (planRefusal header (length buffer)) (planWords header) buffer

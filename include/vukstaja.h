@@ -1,0 +1,51 @@
+/* The engine's three calls, for C: proved in Rattle (crates/exports), linked from libexports.a. docs/CALLING.md says it in full.
+ *
+ * What is asked of the caller, since C can't show it: no pointer is null, even where its length is 0; each buffer has at least
+ * as many elements as its length says; and no two buffers overlap. Nothing is asked of what the buffers hold. */
+#ifndef VUKSTAJA_H
+#define VUKSTAJA_H
+
+#include <stddef.h>
+#include <stdint.h>
+
+/* The places of an answer's six numbers. */
+enum {
+    VUKSTAJA_NUMBER = 0,     /* 0: done; 12: a loss circle, after a run; else the refusal's number */
+    VUKSTAJA_HAS_PLACE = 1,  /* 1 where there is a place (refusals 9, 10 and 11), else 0 */
+    VUKSTAJA_PLACE = 2,      /* the place, else 0 */
+    VUKSTAJA_ROUNDS = 3,     /* of a run */
+    VUKSTAJA_LOG_LENGTH = 4, /* of a run */
+    VUKSTAJA_VERDICT = 5,    /* of a request's run */
+    VUKSTAJA_PLAN_LENGTH = 3 /* of a written plan */
+};
+
+typedef uint64_t vukstaja_answer[6];
+
+#ifdef __cplusplus
+extern "C" {
+#endif
+
+/* Runs a request. With 0 cells, log, distances and parents are the run's; with 12 only cells and log; else nothing is changed. */
+void vukstaja_run(const uint64_t *request, size_t request_length,
+                  int64_t *cells, size_t cells_length,
+                  uint64_t *log, size_t log_length,
+                  int64_t *distances, size_t distances_length,
+                  int64_t *parents, size_t parents_length,
+                  vukstaja_answer *answer);
+
+/* Runs a plan that somebody else wrote, on the lent cells. With 0 cells and log are the run's; else nothing is changed. */
+void vukstaja_run_plan(const uint64_t *plan, size_t plan_length,
+                       int64_t *cells, size_t cells_length,
+                       uint64_t *log, size_t log_length,
+                       vukstaja_answer *answer);
+
+/* Writes the plan of a header, whose first word alone is looked at. With 0 the plan is written; else nothing is changed. */
+void vukstaja_write_plan(const uint64_t *header, size_t header_length,
+                         uint64_t *plan, size_t plan_length,
+                         vukstaja_answer *answer);
+
+#ifdef __cplusplus
+}
+#endif
+
+#endif

@@ -1,0 +1,59 @@
+//! Prints what the desk's program prints for a request.
+//!
+//! The words are hexadecimal arguments; without any, the printed request:
+//! two vertices and one edge from 0 to 1 of weight -5.
+
+use std::fmt::Display;
+use std::num::ParseIntError;
+
+use vukstaja::{solve, Refusal, Routes};
+
+const PRINTED: [u64; 2] = [0x1000_0200_0010_0000, 0x0001_0000_FFFF_FFFB];
+
+fn main() -> Result<(), ParseIntError> {
+    let request = words()?;
+    match solve(&request) {
+        Ok(routes) => print_routes(&routes),
+        Err(refusal) => print_refusal(&refusal),
+    }
+    Ok(())
+}
+
+fn words() -> Result<Vec<u64>, ParseIntError> {
+    let given: Result<Vec<u64>, _> = std::env::args()
+        .skip(1)
+        .map(|word| u64::from_str_radix(&word, 16))
+        .collect();
+    given.map(|words| match words.is_empty() {
+        true => PRINTED.to_vec(),
+        false => words,
+    })
+}
+
+fn print_routes(routes: &Routes) {
+    let header = routes.header;
+    println!(
+        "{} {} {} {} {} {}",
+        header.method as u64,
+        header.vertices,
+        header.edges,
+        header.source,
+        routes.report.rounds,
+        routes.report.verdict
+    );
+    let lines = routes.distances.iter().zip(&routes.parents);
+    for (vertex, (distance, parent)) in lines.enumerate() {
+        println!("{vertex} {} {}", or_dash(distance), or_dash(parent));
+    }
+}
+
+fn print_refusal(refusal: &Refusal) {
+    match refusal.place {
+        Some(place) => println!("refused {} {place}", refusal.number),
+        None => println!("refused {}", refusal.number),
+    }
+}
+
+fn or_dash(value: &Option<impl Display>) -> String {
+    value.as_ref().map_or("-".to_string(), |v| v.to_string())
+}

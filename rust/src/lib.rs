@@ -1,0 +1,352 @@
+//! Private routing: safe calls to the proved static library.
+//!
+//! A graph has vertices and directed edges with weights; an edge of negative
+//! weight is allowed in method 1. A run answers the distance of each vertex
+//! from the source and its parent on a shortest walk, and writes a log that
+//! follows from the public header and the verdict alone.
+//!
+//! ```
+//! // Two vertices, and one edge from 0 to 1 of weight -5.
+//! let routes = vukstaja::solve(&[0x1000_0200_0010_0000, 0x0001_0000_FFFF_FFFB])?;
+//! assert_eq!(routes.distances, [Some(0), Some(-5)]);
+//! assert_eq!(routes.parents, [None, Some(0)]);
+//! # Ok::<(), vukstaja::Refusal>(())
+//! ```
+
+use std::error::Error;
+use std::fmt;
+
+/// The distance cell of a vertex that no walk from the source reaches.
+pub const UNREACHED: i64 = 1 << 38;
+
+/// The parent of the source and of unreached vertices.
+pub const NO_PARENT: i64 = -1;
+
+const MAX_VERTICES: u32 = 32;
+const MAX_EDGES: u32 = 128;
+const FIELD_BITS: u32 = 20;
+const FIELD_MAX: u32 = (1 << FIELD_BITS) - 1;
+const NEGATIVE_CYCLE: u64 = 12;
+
+extern "C" {
+    fn vukstaja_run(
+        request: *const u64,
+        request_len: usize,
+        cells: *mut i64,
+        cells_len: usize,
+        log: *mut u64,
+        log_len: usize,
+        distances: *mut i64,
+        distances_len: usize,
+        parents: *mut i64,
+        parents_len: usize,
+        answer: *mut [u64; 6],
+    );
+    fn vukstaja_run_plan(
+        plan: *const u64,
+        plan_len: usize,
+        cells: *mut i64,
+        cells_len: usize,
+        log: *mut u64,
+        log_len: usize,
+        answer: *mut [u64; 6],
+    );
+    fn vukstaja_write_plan(
+        header: *const u64,
+        header_len: usize,
+        plan: *mut u64,
+        plan_len: usize,
+        answer: *mut [u64; 6],
+    );
+}
+
+/// How a request gives its graph, and which plan answers it.
+#[derive(Clone, Copy, Debug, PartialEq, Eq)]
+pub enum Method {
+    /// Method 1: Bellman-Ford over a list of edges.
+    BellmanFord = 1,
+    /// Method 2: Dijkstra over a table of weights.
+    Dijkstra = 2,
+}
+
+/// The public part of a request.
+#[derive(Clone, Copy, Debug, PartialEq, Eq)]
+pub struct Header {
+    pub method: Method,
+    pub vertices: u32,
+    pub edges: u32,
+    pub source: u32,
+}
+
+impl Header {
+    /// Reads a header word; `None` if the library would refuse its method,
+    /// vertices or number of edges, so that its lengths mean nothing.
+    pub fn from_word(word: u64) -> Option<Header> {
+        let method = match word >> (3 * FIELD_BITS) {
+            1 => Method::BellmanFord,
+            2 => Method::Dijkstra,
+            _ => return None,
+        };
+        let header = Header {
+            method,
+            vertices: (word >> (2 * FIELD_BITS)) as u32 & FIELD_MAX,
+            edges: (word >> FIELD_BITS) as u32 & FIELD_MAX,
+            source: word as u32 & FIELD_MAX,
+        };
+        let in_range = (1..=MAX_VERTICES).contains(&header.vertices) && header.edges <= MAX_EDGES;
+        in_range.then_some(header)
+    }
+
+    /// The header as a request's first word.
+    pub fn word(&self) -> u64 {
+        (self.method as u64) << (3 * FIELD_BITS)
+            | field(self.vertices) << (2 * FIELD_BITS)
+            | field(self.edges) << FIELD_BITS
+            | field(self.source)
+    }
+
+    /// The number of cells a run needs.
+    pub fn cells(&self) -> usize {
+        let (n, m) = self.sizes();
+        match self.method {
+            Method::BellmanFord => 3 * m + 3 * n + 8,
+            Method::Dijkstra => n * n + 5 * n + 6,
+        }
+    }
+
+    /// The number of words of the plan, its header included.
+    pub fn plan_length(&self) -> usize {
+        let (n, m) = self.sizes();
+        match self.method {
+            // Saturating, because a header without vertices has no plan to measure.
+            Method::BellmanFord => 3 * n + 4 + m * (8 * n * n + 3 * n).saturating_sub(1),
+            Method::Dijkstra => n * n * n + 11 * n * n + 6 * n + 3,
+        }
+    }
+
+    /// The number of words of a run's log: method 1 publishes one cell.
+    pub fn log_length(&self) -> usize {
+        match self.method {
+            Method::BellmanFord => self.plan_length() + 1,
+            Method::Dijkstra => self.plan_length(),
+        }
+    }
+
+    fn sizes(&self) -> (usize, usize) {
+        (field(self.vertices) as usize, field(self.edges) as usize)
+    }
+}
+
+/// Saturates, so that a number too large for its field is still refused.
+fn field(number: u32) -> u64 {
+    u64::from(number.min(FIELD_MAX))
+}
+
+/// What a request's run tells beside its buffers.
+#[derive(Clone, Copy, Debug, PartialEq, Eq)]
+pub struct Report {
+    pub rounds: u64,
+    pub log_length: u64,
+    pub verdict: u64,
+}
+
+/// What the run of a foreign plan tells beside its buffers.
+#[derive(Clone, Copy, Debug, PartialEq, Eq)]
+pub struct PlanReport {
+    pub rounds: u64,
+    pub log_length: u64,
+}
+
+/// Why a call was refused, and at which word where there is one.
+#[derive(Clone, Copy, Debug, PartialEq, Eq)]
+pub struct Refusal {
+    pub number: u64,
+    pub place: Option<u64>,
+}
+
+impl Refusal {
+    fn sentence(&self) -> &'static str {
+        match self.number {
+            1 => "the header is missing, or its method is not 1 or 2",
+            2 => "the number of vertices is 0 or over 32",
+            3 => "the number of edges is over 128, or not 0 in method 2",
+            4 => "the source is not one of the vertices",
+            5 => "the number of words after the header is not the header's",
+            6 => "there are too few cells",
+            7 => "the log or plan buffer is too short",
+            8 => "the distances or parents buffer is shorter than the number of vertices",
+            9 => "the plan has a word that cannot be carried out",
+            10 => "an edge names a vertex that is not there, or its spare bits are not zero",
+            11 => "a weight is outside its range",
+            12 => "the source reaches a cycle of negative weight",
+            _ => "the refusal has no known number",
+        }
+    }
+}
+
+impl fmt::Display for Refusal {
+    fn fmt(&self, out: &mut fmt::Formatter<'_>) -> fmt::Result {
+        write!(out, "refused {}: {}", self.number, self.sentence())?;
+        match self.place {
+            Some(place) => write!(out, " (place {place})"),
+            None => Ok(()),
+        }
+    }
+}
+
+impl Error for Refusal {}
+
+/// The answer to a request.
+#[derive(Clone, Copy, Debug, PartialEq, Eq)]
+pub enum Answer {
+    /// Cells, log, distances and parents are written.
+    Ran(Report),
+    /// Refusal 12: cells and log are written, distances and parents are not.
+    NegativeCycle(Report),
+    /// No buffer has changed.
+    Refused(Refusal),
+}
+
+/// The routes of a request that ran.
+#[derive(Clone, Debug, PartialEq, Eq)]
+pub struct Routes {
+    pub header: Header,
+    pub report: Report,
+    /// `None` where no walk from the source leads.
+    pub distances: Vec<Option<i64>>,
+    /// The last edge's number in method 1, the last vertex but one in method 2.
+    pub parents: Vec<Option<usize>>,
+    pub log: Vec<u64>,
+}
+
+/// Runs a request in the buffers lent.
+pub fn run(
+    request: &[u64],
+    cells: &mut [i64],
+    log: &mut [u64],
+    distances: &mut [i64],
+    parents: &mut [i64],
+) -> Answer {
+    let mut answer = [0; 6];
+    // SAFETY: each pointer and length come from one live slice, never null;
+    // the exclusive borrows do not overlap, and the library keeps none of them.
+    unsafe {
+        vukstaja_run(
+            request.as_ptr(),
+            request.len(),
+            cells.as_mut_ptr(),
+            cells.len(),
+            log.as_mut_ptr(),
+            log.len(),
+            distances.as_mut_ptr(),
+            distances.len(),
+            parents.as_mut_ptr(),
+            parents.len(),
+            &mut answer,
+        );
+    }
+    let [number, _, _, rounds, log_length, verdict] = answer;
+    let report = Report {
+        rounds,
+        log_length,
+        verdict,
+    };
+    match number {
+        0 => Answer::Ran(report),
+        NEGATIVE_CYCLE => Answer::NegativeCycle(report),
+        _ => Answer::Refused(refusal(&answer)),
+    }
+}
+
+/// Runs a foreign plan on the cells lent.
+pub fn run_plan(plan: &[u64], cells: &mut [i64], log: &mut [u64]) -> Result<PlanReport, Refusal> {
+    let mut answer = [0; 6];
+    // SAFETY: each pointer and length come from one live slice, never null;
+    // the exclusive borrows do not overlap, and the library keeps none of them.
+    unsafe {
+        vukstaja_run_plan(
+            plan.as_ptr(),
+            plan.len(),
+            cells.as_mut_ptr(),
+            cells.len(),
+            log.as_mut_ptr(),
+            log.len(),
+            &mut answer,
+        );
+    }
+    let [number, _, _, rounds, log_length, _] = answer;
+    match number {
+        0 => Ok(PlanReport { rounds, log_length }),
+        _ => Err(refusal(&answer)),
+    }
+}
+
+/// Writes the plan of a header, the first word given, and answers its length.
+pub fn write_plan(header: &[u64], plan: &mut [u64]) -> Result<u64, Refusal> {
+    let mut answer = [0; 6];
+    // SAFETY: each pointer and length come from one live slice, never null;
+    // the exclusive borrow does not overlap, and the library keeps neither.
+    unsafe {
+        vukstaja_write_plan(
+            header.as_ptr(),
+            header.len(),
+            plan.as_mut_ptr(),
+            plan.len(),
+            &mut answer,
+        );
+    }
+    match answer[0] {
+        0 => Ok(answer[3]),
+        _ => Err(refusal(&answer)),
+    }
+}
+
+/// Runs a request in buffers of the lengths its header asks for.
+pub fn solve(request: &[u64]) -> Result<Routes, Refusal> {
+    // A header without lengths is refused before any buffer is looked at.
+    let Some(header) = request.first().copied().and_then(Header::from_word) else {
+        return Err(refused_header(request));
+    };
+    let vertices = header.vertices as usize;
+    let mut cells = vec![0; header.cells()];
+    let mut log = vec![0; header.log_length()];
+    let mut distances = vec![0; vertices];
+    let mut parents = vec![0; vertices];
+    match run(request, &mut cells, &mut log, &mut distances, &mut parents) {
+        Answer::Ran(report) => Ok(Routes {
+            header,
+            report,
+            distances: distances.into_iter().map(reached).collect(),
+            parents: parents.into_iter().map(known).collect(),
+            log,
+        }),
+        Answer::NegativeCycle(_) => Err(Refusal {
+            number: NEGATIVE_CYCLE,
+            place: None,
+        }),
+        Answer::Refused(refusal) => Err(refusal),
+    }
+}
+
+/// The library names the fault; it does so without any buffer.
+fn refused_header(request: &[u64]) -> Refusal {
+    match write_plan(request, &mut []) {
+        Err(refusal) => refusal,
+        Ok(_) => unreachable!("no plan is written into an empty buffer"),
+    }
+}
+
+fn reached(distance: i64) -> Option<i64> {
+    (distance != UNREACHED).then_some(distance)
+}
+
+fn known(parent: i64) -> Option<usize> {
+    (parent != NO_PARENT).then_some(parent as usize)
+}
+
+fn refusal(answer: &[u64; 6]) -> Refusal {
+    Refusal {
+        number: answer[0],
+        place: (answer[1] == 1).then_some(answer[2]),
+    }
+}

@@ -1,0 +1,443 @@
+//! Compares the library with an independent implementation of document 01.
+
+mod generator;
+mod reference;
+
+use std::collections::HashSet;
+
+use generator::{buffers, damage, edge_word, request, small_request, Random};
+use reference::graph::Graph;
+use reference::plan::{pack, FAR};
+use reference::{Buffers, Outcome};
+use vukstaja::{Answer, Header, Method, Refusal, Routes};
+
+const SEED: u64 = 0x5EED_0101_2026_0001;
+
+fn refused(refusal: Refusal) -> Outcome {
+    Outcome {
+        number: refusal.number,
+        place: refusal.place,
+        values: [0; 3],
+    }
+}
+
+fn ran(number: u64, values: [u64; 3]) -> Outcome {
+    Outcome {
+        number,
+        place: None,
+        values,
+    }
+}
+
+fn library_run(request: &[u64], lent: &mut Buffers) -> Outcome {
+    let answer = vukstaja::run(
+        request,
+        &mut lent.cells,
+        &mut lent.log,
+        &mut lent.distances,
+        &mut lent.parents,
+    );
+    match answer {
+        Answer::Ran(r) => ran(0, [r.rounds, r.log_length, r.verdict]),
+        Answer::NegativeCycle(r) => ran(12, [r.rounds, r.log_length, r.verdict]),
+        Answer::Refused(refusal) => refused(refusal),
+    }
+}
+
+/// Runs both on the same buffers and compares answer and buffers whole.
+fn compare(request: &[u64], lent: Buffers) -> (Outcome, Buffers) {
+    let mut ours = lent.clone();
+    let mut theirs = lent;
+    let outcome = library_run(request, &mut ours);
+    assert_eq!(
+        outcome,
+        reference::run(request, &mut theirs),
+        "{request:x?}"
+    );
+    assert!(ours == theirs, "buffers differ: {request:x?}");
+    if matches!(outcome.number, 0 | 12) {
+        judge(request, &outcome, &ours);
+    }
+    (outcome, ours)
+}
+
+/// Judges verdict, distances and parents by the graph alone.
+fn judge(request: &[u64], outcome: &Outcome, left: &Buffers) {
+    let graph = Graph::read(request);
+    let distances = graph.bellman_ford();
+    assert_eq!(outcome.number == 12, distances.is_none(), "{request:x?}");
+    assert_eq!(outcome.values[2], u64::from(distances.is_none()));
+    let Some(distances) = distances else {
+        return;
+    };
+    let dense = request[0] >> 60 == 2;
+    if dense {
+        assert_eq!(distances, graph.dijkstra(), "{request:x?}");
+    }
+    for (vertex, distance) in distances.iter().enumerate() {
+        let found = left.distances[vertex];
+        assert_eq!(found, distance.unwrap_or(FAR), "{request:x?}");
+        let steps = walk_back(&graph, left, vertex, dense);
+        assert_eq!(steps.is_some(), distance.is_some(), "{request:x?}");
+    }
+}
+
+/// Follows the parents along tight edges to the source and counts the steps;
+/// `None` for a vertex without parent that is not the source.
+fn walk_back(graph: &Graph, left: &Buffers, vertex: usize, dense: bool) -> Option<usize> {
+    let mut at = vertex;
+    for steps in 0..graph.vertices {
+        let parent = left.parents[at];
+        if parent == -1 {
+            return (at == graph.source).then_some(steps);
+        }
+        let number = match dense {
+            true => parent as usize * graph.vertices + at,
+            false => parent as usize,
+        };
+        let edge = graph.edges[number].expect("a parent's edge is there");
+        assert_eq!(edge.head, at);
+        let total = left.distances[edge.tail] + edge.weight;
+        assert_eq!(total, left.distances[at], "the parent's edge is not tight");
+        at = edge.tail;
+    }
+    panic!("the parents of vertex {vertex} run in a circle");
+}
+
+#[test]
+fn small_requests() {
+    let mut random = Random::new(SEED);
+    let mut seen = [0; 13];
+    for _ in 0..100_000 {
+        let mut request = small_request(&mut random);
+        let mut lent = buffers(&mut random, request[0]);
+        for _ in 0..random.below(6).saturating_sub(2) {
+            damage(&mut random, &mut request, &mut lent);
+        }
+        let (outcome, _) = compare(&request, lent);
+        seen[outcome.number as usize] += 1;
+    }
+    println!("100000 requests, by number: {seen:?}");
+    for number in (0..13).filter(|&number| number != 9) {
+        assert!(seen[number] > 100, "number {number} is rare: {seen:?}");
+    }
+}
+
+#[test]
+fn middle_requests() {
+    let mut random = Random::new(SEED + 1);
+    for _ in 0..200 {
+        let (n, m) = (7 + random.below(8), random.below(40));
+        let method = 1 + random.below(2);
+        let request = request(&mut random, method, n, m);
+        let lent = buffers(&mut random, request[0]);
+        compare(&request, lent);
+    }
+}
+
+#[test]
+fn full_size_requests() {
+    let mut random = Random::new(SEED + 2);
+    for (method, runs, words, rounds) in [(1, 12, 1_060_837, 3_039_203), (2, 40, 44_227, 57_506)] {
+        for _ in 0..runs {
+            let request = request(&mut random, method, 32, 128);
+            let lent = buffers(&mut random, request[0]);
+            let (outcome, _) = compare(&request, lent);
+            assert_eq!(outcome.values[..2], [rounds, words]);
+        }
+    }
+}
+
+#[test]
+fn full_size_negative_cycle_around_all_vertices() {
+    let mut request = vec![pack(1, 32, 128, 0)];
+    // Against the order of the edges a pass moves one step only.
+    for i in 0..128 {
+        let tail = 31 - i % 32;
+        let weight = if tail == 31 { -31 } else { 1 };
+        request.push(edge_word(tail, (tail + 1) % 32, weight));
+    }
+    let mut random = Random::new(SEED + 3);
+    let lent = buffers(&mut random, request[0]);
+    assert_eq!(compare(&request, lent.clone()).0.number, 0);
+    for word in request.iter_mut().skip(1).filter(|word| **word >> 56 == 31) {
+        *word = edge_word(31, 0, -32);
+    }
+    assert_eq!(compare(&request, lent).0.number, 12);
+}
+
+/// Solving finds the lengths by itself, for damaged headers too.
+#[test]
+fn solved_requests() {
+    let mut random = Random::new(SEED + 7);
+    let mut roomy = Buffers {
+        cells: vec![0; 1190],
+        log: vec![0; 1_060_837],
+        distances: vec![0; 32],
+        parents: vec![0; 32],
+    };
+    for _ in 0..10_000 {
+        let mut request = small_request(&mut random);
+        let mut unused = buffers(&mut random, request[0]);
+        if random.one_in(2) {
+            damage(&mut random, &mut request, &mut unused);
+        }
+        let expected = reference::run(&request, &mut roomy);
+        match vukstaja::solve(&request) {
+            Ok(routes) => compare_routes(&routes, &expected, &roomy),
+            Err(refusal) => {
+                let found = (refusal.number, refusal.place);
+                assert_eq!(found, (expected.number, expected.place));
+            }
+        }
+    }
+}
+
+fn compare_routes(routes: &Routes, expected: &Outcome, left: &Buffers) {
+    let report = routes.report;
+    let values = [report.rounds, report.log_length, report.verdict];
+    assert_eq!(ran(0, values), *expected);
+    assert_eq!(routes.log, left.log[..routes.log.len()]);
+    assert_eq!(routes.log.len() as u64, report.log_length);
+    assert_eq!(routes.distances.len(), routes.header.vertices as usize);
+    for (vertex, distance) in routes.distances.iter().enumerate() {
+        assert_eq!(distance.unwrap_or(FAR), left.distances[vertex]);
+        let parent = routes.parents[vertex].map_or(-1, |parent| parent as i64);
+        assert_eq!(parent, left.parents[vertex]);
+    }
+}
+
+#[test]
+fn refusals_have_sentences_of_their_own() {
+    let place = None;
+    let texts = (1..=12).map(|number| Refusal { number, place }.to_string());
+    let sentences: HashSet<String> = texts
+        .map(|text| text.split_once(": ").expect("a number first").1.to_string())
+        .collect();
+    assert_eq!(sentences.len(), 12);
+    let placed = Refusal {
+        number: 11,
+        place: Some(0),
+    };
+    let text = "refused 11: a weight is outside its range (place 0)";
+    assert_eq!(placed.to_string(), text);
+}
+
+/// Numbers too large for their fields stay too large.
+#[test]
+fn oversized_headers_are_refused() {
+    let header = Header {
+        method: Method::BellmanFord,
+        vertices: u32::MAX,
+        edges: u32::MAX,
+        source: u32::MAX,
+    };
+    assert_eq!(number(&[header.word()]), (2, None));
+    assert!(header.plan_length() > header.cells());
+}
+
+fn compare_plan(plan: &[u64], cells: Vec<i64>, log: Vec<u64>) -> Outcome {
+    let (mut our_cells, mut our_log) = (cells.clone(), log.clone());
+    let (mut their_cells, mut their_log) = (cells, log);
+    let outcome = match vukstaja::run_plan(plan, &mut our_cells, &mut our_log) {
+        Ok(report) => ran(0, [report.rounds, report.log_length, 0]),
+        Err(refusal) => refused(refusal),
+    };
+    let expected = reference::run_plan(plan, &mut their_cells, &mut their_log);
+    assert_eq!(outcome, expected);
+    assert!(our_cells == their_cells, "cells differ");
+    assert!(our_log == their_log, "logs differ");
+    outcome
+}
+
+#[test]
+fn foreign_plans() {
+    let mut random = Random::new(SEED + 4);
+    let mut seen = [0; 13];
+    for _ in 0..30_000 {
+        let count = random.below(12);
+        let mut plan = generator::foreign_plan(&mut random, count);
+        for _ in 0..random.below(4).saturating_sub(1) {
+            generator::damage_plan(&mut random, &mut plan, count);
+        }
+        let cells = plan_cells(&mut random, count as usize);
+        let needed = reference::log_length(&plan);
+        let length = match random.below(4) {
+            0 => random.index(needed + 1),
+            1 => needed.saturating_sub(1),
+            _ => needed + random.index(3),
+        };
+        let log = random.words(length);
+        seen[compare_plan(&plan, cells, log).number as usize] += 1;
+    }
+    println!("30000 foreign plans, by number: {seen:?}");
+    assert!(seen[0] > 1000 && seen[7] > 1000 && seen[9] > 1000);
+}
+
+/// Small numbers and the ends, so that comparisons go both ways.
+fn plan_cells(random: &mut Random, count: usize) -> Vec<i64> {
+    let mut cells = random.cells(count);
+    for cell in &mut cells {
+        match random.below(4) {
+            0 => *cell = random.between(-1, 1),
+            1 => *cell = i64::MAX,
+            2 => *cell = i64::MIN,
+            _ => (),
+        }
+    }
+    cells
+}
+
+#[test]
+fn empty_plan() {
+    let outcome = compare_plan(&[], vec![5], vec![6]);
+    assert_eq!(outcome, ran(0, [0; 3]));
+    assert_eq!(compare_plan(&[], vec![], vec![]), ran(0, [0; 3]));
+}
+
+#[test]
+fn last_place_of_a_plan() {
+    let places = 1 << 24;
+    let mut plan = vec![pack(1, 0, 0, 0); places + 1];
+    let outcome = compare_plan(&plan, vec![3], vec![0; 2]);
+    assert_eq!((outcome.number, outcome.place), (9, Some(places as u64)));
+    plan.pop();
+    assert_eq!(compare_plan(&plan, vec![3], vec![0; 2]).number, 7);
+    assert_eq!(compare_plan(&plan, vec![3], vec![0; places]).number, 0);
+}
+
+fn compare_written(header: &[u64], lent: Vec<u64>) -> Outcome {
+    let (mut ours, mut theirs) = (lent.clone(), lent);
+    let outcome = match vukstaja::write_plan(header, &mut ours) {
+        Ok(length) => ran(0, [length, 0, 0]),
+        Err(refusal) => refused(refusal),
+    };
+    assert_eq!(outcome, reference::write_plan(header, &mut theirs));
+    assert!(ours == theirs, "plans differ: {header:x?}");
+    outcome
+}
+
+#[test]
+fn written_plans() {
+    let mut random = Random::new(SEED + 5);
+    let mut seen = [0; 13];
+    for _ in 0..10_000 {
+        let mut request = small_request(&mut random);
+        let mut lent = buffers(&mut random, request[0]);
+        for _ in 0..random.below(3) {
+            damage(&mut random, &mut request, &mut lent);
+        }
+        let outcome = compare_written(&request, lent.log);
+        seen[outcome.number as usize] += 1;
+    }
+    println!("10000 plans written, by number: {seen:?}");
+    for number in [0, 1, 2, 3, 4, 7] {
+        assert!(seen[number] > 100, "number {number} is rare: {seen:?}");
+    }
+}
+
+/// Every number of vertices and every number of edges occurs here.
+#[test]
+fn written_plans_have_the_stated_lengths() {
+    let pairs = (0..=128).map(|m| (1, 1 + m % 32, m));
+    let tables = (1..=32).map(|n| (2, n, 0));
+    for (method, n, m) in pairs.chain(tables) {
+        let header = Header {
+            method: [Method::BellmanFord, Method::Dijkstra][method - 1],
+            vertices: n,
+            edges: m,
+            source: n - 1,
+        };
+        let word = header.word();
+        assert_eq!(Header::from_word(word), Some(header));
+        let plan = reference::plan_words(word);
+        assert_eq!(header.plan_length(), plan.len());
+        assert_eq!(header.log_length(), reference::log_length(&plan));
+        let outcome = compare_written(&[word], vec![7; plan.len() + 2]);
+        assert_eq!(outcome.values[0], plan.len() as u64);
+        assert_eq!(compare_written(&[word], vec![7; plan.len() - 1]).number, 7);
+    }
+}
+
+/// The log tells the public part and the verdict, and nothing else.
+#[test]
+fn logs_of_pairs() {
+    let mut random = Random::new(SEED + 6);
+    let mut differing = 0;
+    for _ in 0..3_000 {
+        let first = small_request(&mut random);
+        let (method, n, m) = (first[0] >> 60, first[0] >> 40 & 0xFF, first[0] >> 20 & 0xFF);
+        let mut second = request(&mut random, method, n, m);
+        second[0] = first[0];
+        let [(one, left), (two, right)] = [&first, &second].map(|request| {
+            let lent = buffers(&mut random, request[0]);
+            compare(request, lent)
+        });
+        let length = one.values[1] as usize;
+        let equal = left.log[..length] == right.log[..length];
+        assert_eq!(one.values[..2], two.values[..2]);
+        assert_eq!(equal, one.values[2] == two.values[2]);
+        differing += usize::from(!equal);
+    }
+    println!("3000 pairs, {differing} with different verdicts");
+    assert!(differing > 100);
+}
+
+fn solved(request: &[u64]) -> (u64, Vec<Option<i64>>, Vec<Option<usize>>) {
+    let routes = vukstaja::solve(request).expect("the request runs");
+    (routes.report.rounds, routes.distances, routes.parents)
+}
+
+fn number(request: &[u64]) -> (u64, Option<u64>) {
+    let refusal = vukstaja::solve(request).expect_err("the request is refused");
+    (refusal.number, refusal.place)
+}
+
+#[test]
+fn requests_at_the_edges() {
+    let lone = pack(1, 1, 1, 0);
+    let absent = u64::from(u32::MAX);
+    let first = vukstaja::solve(&[0x1000_0100_0000_0000]).expect("row 1 runs");
+    let row_1 = [
+        0x1000010000000000,
+        0x0000020000000000,
+        0x0000000000000000,
+        0x000001FFFFFFFFFF,
+        0x0000034000000000,
+        0x00000A0000000000,
+        0x7000000000A00000,
+        0,
+    ];
+    assert_eq!((first.report.rounds, &first.log[..]), (6, &row_1[..]));
+    let printed = [0x1000_0200_0010_0000, 0x0001_0000_FFFF_FFFB];
+    assert_eq!(
+        solved(&printed),
+        (112, vec![Some(0), Some(-5)], vec![None, Some(0)])
+    );
+    assert_eq!(number(&[lone, edge_word(0, 0, -1)]), (12, None));
+    assert_eq!(solved(&[lone, edge_word(0, 0, 0)]).1, [Some(0)]);
+    let twins = [pack(1, 2, 2, 0), edge_word(0, 1, 4), edge_word(0, 1, 4)];
+    assert_eq!(solved(&twins).1, [Some(0), Some(4)]);
+    assert_eq!(solved(&twins).2, [None, Some(0)]);
+    let apart = [pack(1, 3, 2, 0), edge_word(1, 2, -1), edge_word(2, 1, -1)];
+    assert_eq!(solved(&apart).1, [Some(0), None, None]);
+    let empty = [pack(2, 2, 0, 0), absent, absent, absent, absent];
+    assert_eq!(solved(&empty), (116, vec![Some(0), None], vec![None, None]));
+    let single = vukstaja::solve(&[pack(2, 1, 0, 0), absent]).expect("row 7 runs");
+    assert_eq!((single.report.rounds, single.log.len()), (32, 21));
+    assert_eq!(solved(&[lone, edge_word(0, 0, 1_000_000)]).1, [Some(0)]);
+    assert_eq!(number(&[lone, edge_word(0, 0, 1_000_001)]), (11, Some(0)));
+    assert_eq!(number(&[pack(1, 33, 0, 0)]), (2, None));
+    assert_eq!(number(&[pack(1, 1, 129, 0)]), (3, None));
+    assert_eq!(number(&[]), (1, None));
+}
+
+#[test]
+fn words_at_the_edges() {
+    let mut cells = [i64::MAX, 1];
+    let mut log = [0; 2];
+    vukstaja::run_plan(&[0, pack(2, 0, 0, 1)], &mut cells, &mut log).expect("ADD runs");
+    assert_eq!(cells, [i64::MIN, 1]);
+    vukstaja::run_plan(&[0, pack(0, 1, 524_288, 0)], &mut cells, &mut log).expect("SET runs");
+    assert_eq!(cells, [i64::MIN, -549_755_813_888]);
+}

@@ -1,0 +1,109 @@
+//! Shortest walks without plans or cells, to judge the results themselves.
+
+use super::plan::Public;
+
+/// An edge: its tail, its head and its weight.
+#[derive(Clone, Copy)]
+pub struct Edge {
+    pub tail: usize,
+    pub head: usize,
+    pub weight: i64,
+}
+
+/// The graph of a valid request; in method 2 an edge for each table entry.
+pub struct Graph {
+    pub vertices: usize,
+    pub source: usize,
+    pub edges: Vec<Option<Edge>>,
+}
+
+impl Graph {
+    pub fn read(request: &[u64]) -> Graph {
+        let public = Public::read(request[0]);
+        let n = public.n as usize;
+        let words = request[1..].iter().enumerate();
+        let edges = words.map(|(at, &word)| match public.method {
+            1 => Some(listed_edge(word)),
+            _ => table_edge(at, word, n),
+        });
+        Graph {
+            vertices: n,
+            source: public.source as usize,
+            edges: edges.collect(),
+        }
+    }
+
+    fn present(&self) -> impl Iterator<Item = &Edge> {
+        self.edges.iter().flatten()
+    }
+
+    /// Bellman-Ford: distances, or `None` if a negative cycle is reachable.
+    pub fn bellman_ford(&self) -> Option<Vec<Option<i64>>> {
+        let mut distances = vec![None; self.vertices];
+        distances[self.source] = Some(0);
+        // A walk without cycles has fewer edges than vertices: the last pass must be idle.
+        for _ in 0..self.vertices {
+            if !self.relax(&mut distances) {
+                return Some(distances);
+            }
+        }
+        None
+    }
+
+    fn relax(&self, distances: &mut [Option<i64>]) -> bool {
+        let mut changed = false;
+        for edge in self.present() {
+            let Some(reached) = distances[edge.tail] else {
+                continue;
+            };
+            let total = reached + edge.weight;
+            if distances[edge.head].is_none_or(|old| total < old) {
+                distances[edge.head] = Some(total);
+                changed = true;
+            }
+        }
+        changed
+    }
+
+    /// Dijkstra, for weights that are not negative.
+    pub fn dijkstra(&self) -> Vec<Option<i64>> {
+        let mut distances = vec![None; self.vertices];
+        let mut open = vec![true; self.vertices];
+        distances[self.source] = Some(0);
+        while let Some((near, vertex)) = nearest(&distances, &open) {
+            open[vertex] = false;
+            for edge in self.present().filter(|edge| edge.tail == vertex) {
+                let total = near + edge.weight;
+                if distances[edge.head].is_none_or(|old| total < old) {
+                    distances[edge.head] = Some(total);
+                }
+            }
+        }
+        distances
+    }
+}
+
+fn nearest(distances: &[Option<i64>], open: &[bool]) -> Option<(i64, usize)> {
+    let vertices = 0..distances.len();
+    vertices
+        .filter(|&v| open[v])
+        .filter_map(|v| distances[v].map(|distance| (distance, v)))
+        .min()
+}
+
+fn listed_edge(word: u64) -> Edge {
+    Edge {
+        tail: (word >> 56) as usize,
+        head: (word >> 48 & 0xFF) as usize,
+        weight: i64::from(word as u32 as i32),
+    }
+}
+
+fn table_edge(at: usize, word: u64, n: usize) -> Option<Edge> {
+    let weight = i64::from(word as u32 as i32);
+    (weight >= 0).then_some(Edge {
+        tail: at / n,
+        head: at % n,
+        weight,
+    })
+}

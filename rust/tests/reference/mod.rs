@@ -1,0 +1,196 @@
+//! An implementation of document 01 that shares nothing with the library.
+
+pub mod graph;
+pub mod plan;
+
+use plan::{emit, lay, split, Machine, Public};
+
+const PLACES: usize = 1 << 24;
+const MOST: i64 = 1_000_000;
+
+/// The number, the place and the three values of an answer.
+#[derive(Clone, Copy, Debug, PartialEq, Eq)]
+pub struct Outcome {
+    pub number: u64,
+    pub place: Option<u64>,
+    pub values: [u64; 3],
+}
+
+fn ran(number: u64, values: [u64; 3]) -> Outcome {
+    Outcome {
+        number,
+        place: None,
+        values,
+    }
+}
+
+fn refused(number: u64, place: Option<usize>) -> Outcome {
+    Outcome {
+        number,
+        place: place.map(|place| place as u64),
+        values: [0; 3],
+    }
+}
+
+/// The buffers a host lends.
+#[derive(Clone, Debug, PartialEq, Eq)]
+pub struct Buffers {
+    pub cells: Vec<i64>,
+    pub log: Vec<u64>,
+    pub distances: Vec<i64>,
+    pub parents: Vec<i64>,
+}
+
+/// Every word of a plan, the header first.
+pub fn plan_words(header: u64) -> Vec<u64> {
+    let mut words = vec![header];
+    emit(&Public::read(header), &mut words);
+    words
+}
+
+/// The log's length: every OPEN adds its published cell.
+pub fn log_length(plan: &[u64]) -> usize {
+    let opens = plan.iter().skip(1).filter(|&&word| word >> 60 == 7);
+    plan.len() + opens.count()
+}
+
+/// The refusal of a header, 1 to 4.
+fn header_fault(request: &[u64]) -> Option<u64> {
+    let Some(&word) = request.first() else {
+        return Some(1);
+    };
+    let public = Public::read(word);
+    match public {
+        Public { method, .. } if method != 1 && method != 2 => Some(1),
+        Public { n, .. } if n == 0 || n > 32 => Some(2),
+        Public { m, .. } if m > 128 => Some(3),
+        Public { method: 2, m, .. } if m != 0 => Some(3),
+        Public { source, n, .. } if source >= n => Some(4),
+        _ => None,
+    }
+}
+
+/// The refusal of a word after the header, 10 before 11.
+fn word_fault(public: &Public, word: u64) -> Option<u64> {
+    let price = i64::from(word as u32 as i32);
+    let (misplaced, outside) = if public.method == 1 {
+        let stranger = word >> 56 >= public.n || word >> 48 & 0xFF >= public.n;
+        let spare = word >> 32 & 0xFFFF != 0;
+        (stranger || spare, !(-MOST..=MOST).contains(&price))
+    } else {
+        (word >> 32 != 0, !(-1..=MOST).contains(&price))
+    };
+    match (misplaced, outside) {
+        (true, _) => Some(10),
+        (_, true) => Some(11),
+        _ => None,
+    }
+}
+
+fn words_fault(public: &Public, words: &[u64]) -> Option<Outcome> {
+    let mut faults = words.iter().enumerate();
+    faults.find_map(|(at, &word)| word_fault(public, word).map(|n| refused(n, Some(at))))
+}
+
+fn lent_fault(public: &Public, log_needed: usize, lent: &Buffers) -> Option<u64> {
+    let n = public.n as usize;
+    if lent.cells.len() < public.cells() {
+        Some(6)
+    } else if lent.log.len() < log_needed {
+        Some(7)
+    } else if lent.distances.len() < n || lent.parents.len() < n {
+        Some(8)
+    } else {
+        None
+    }
+}
+
+/// Runs a request by writing its plan and interpreting the words.
+pub fn run(request: &[u64], lent: &mut Buffers) -> Outcome {
+    if let Some(number) = header_fault(request) {
+        return refused(number, None);
+    }
+    let (header, words) = (request[0], &request[1..]);
+    let public = Public::read(header);
+    let expected = match public.method {
+        1 => public.m,
+        _ => public.n * public.n,
+    };
+    if words.len() as u64 != expected {
+        return refused(5, None);
+    }
+    let plan = plan_words(header);
+    if let Some(number) = lent_fault(&public, log_length(&plan), lent) {
+        return refused(number, None);
+    }
+    if let Some(outcome) = words_fault(&public, words) {
+        return outcome;
+    }
+    lay(&public, words, &mut lent.cells);
+    let (rounds, logged) = interpret(&plan, &mut lent.cells, &mut lent.log);
+    let verdict = match public.method {
+        1 => lent.log[logged - 1],
+        _ => 0,
+    };
+    let values = [rounds, logged as u64, verdict];
+    if verdict != 0 {
+        return ran(12, values);
+    }
+    copy_results(&public, lent);
+    ran(0, values)
+}
+
+fn interpret(plan: &[u64], cells: &mut [i64], log: &mut [u64]) -> (u64, usize) {
+    let mut machine = Machine::new(plan[0], cells, log);
+    machine.interpret(&plan[1..]);
+    (machine.rounds, machine.logged)
+}
+
+fn copy_results(public: &Public, lent: &mut Buffers) {
+    let (n, m) = (public.n as usize, public.m as usize);
+    let first = if public.method == 1 { 3 * m } else { n * n };
+    lent.distances[..n].copy_from_slice(&lent.cells[first..first + n]);
+    lent.parents[..n].copy_from_slice(&lent.cells[first + n..first + 2 * n]);
+}
+
+/// Whether a foreign plan's word can be carried out on that many cells.
+fn sound(word: u64, cells: usize) -> bool {
+    let (op, d, a, b) = split(word);
+    let there = |address: u64| address < cells as u64;
+    match op {
+        0 => there(d),
+        1 => there(d) && there(a) && b == 0,
+        2..=6 => there(d) && there(a) && there(b),
+        7 => d == 0 && there(a) && b == 0,
+        _ => false,
+    }
+}
+
+/// Runs a foreign plan.
+pub fn run_plan(plan: &[u64], cells: &mut [i64], log: &mut [u64]) -> Outcome {
+    let mut places = 1..plan.len();
+    if let Some(place) = places.find(|&at| at >= PLACES || !sound(plan[at], cells.len())) {
+        return refused(9, Some(place));
+    }
+    if log.len() < log_length(plan) {
+        return refused(7, None);
+    }
+    if plan.is_empty() {
+        return ran(0, [0; 3]);
+    }
+    let (rounds, logged) = interpret(plan, cells, log);
+    ran(0, [rounds, logged as u64, 0])
+}
+
+/// Writes the plan of the first word given.
+pub fn write_plan(header: &[u64], buffer: &mut [u64]) -> Outcome {
+    if let Some(number) = header_fault(header) {
+        return refused(number, None);
+    }
+    let plan = plan_words(header[0]);
+    if buffer.len() < plan.len() {
+        return refused(7, None);
+    }
+    buffer[..plan.len()].copy_from_slice(&plan);
+    ran(0, [plan.len() as u64, 0, 0])
+}

@@ -1,0 +1,297 @@
+//! The plans of both methods and how a word is carried out, from document 01.
+
+/// Marks an unreached vertex.
+pub const FAR: i64 = 1 << 38;
+
+const FIELD: u64 = (1 << 20) - 1;
+const ROUNDS: [u64; 8] = [1, 0, 0, 6, 6, 1, 1, 1];
+
+/// The public part of a request.
+#[derive(Clone, Copy)]
+pub struct Public {
+    pub method: u64,
+    pub n: u64,
+    pub m: u64,
+    pub source: u64,
+}
+
+impl Public {
+    pub fn read(word: u64) -> Public {
+        let (method, n, m, source) = split(word);
+        Public {
+            method,
+            n,
+            m,
+            source,
+        }
+    }
+
+    pub fn cells(&self) -> usize {
+        let (n, m) = (self.n, self.m);
+        let count = match self.method {
+            1 => 3 * m + 3 * n + 8,
+            _ => n * n + 5 * n + 6,
+        };
+        count as usize
+    }
+}
+
+/// Splits a word into its 4-bit field and three 20-bit fields.
+#[inline]
+pub fn split(word: u64) -> (u64, u64, u64, u64) {
+    (
+        word >> 60,
+        word >> 40 & FIELD,
+        word >> 20 & FIELD,
+        word & FIELD,
+    )
+}
+
+#[inline]
+pub fn pack(op: u64, d: u64, a: u64, b: u64) -> u64 {
+    op << 60 | d << 40 | a << 20 | b
+}
+
+/// Takes the operations of a plan: to write them down or to carry them out.
+pub trait Sink {
+    fn step(&mut self, op: u64, d: u64, a: u64, b: u64);
+}
+
+impl Sink for Vec<u64> {
+    #[inline(always)]
+    fn step(&mut self, op: u64, d: u64, a: u64, b: u64) {
+        self.push(pack(op, d, a, b));
+    }
+}
+
+/// Gives each operation of a plan to the sink, in order.
+pub fn emit(public: &Public, sink: &mut impl Sink) {
+    let writer = Writer { sink };
+    match public.method {
+        1 => writer.edges(public),
+        _ => writer.table(public),
+    }
+}
+
+struct Writer<'a, S> {
+    sink: &'a mut S,
+}
+
+impl<S: Sink> Writer<'_, S> {
+    fn set(&mut self, d: u64, value: i64) {
+        let bits = value as u64;
+        self.sink.step(0, d, bits >> 20 & FIELD, bits & FIELD);
+    }
+    fn copy(&mut self, d: u64, a: u64) {
+        self.sink.step(1, d, a, 0);
+    }
+    fn add(&mut self, d: u64, a: u64, b: u64) {
+        self.sink.step(2, d, a, b);
+    }
+    fn less(&mut self, d: u64, a: u64, b: u64) {
+        self.sink.step(3, d, a, b);
+    }
+    fn equal(&mut self, d: u64, a: u64, b: u64) {
+        self.sink.step(4, d, a, b);
+    }
+    fn both(&mut self, d: u64, a: u64, b: u64) {
+        self.sink.step(5, d, a, b);
+    }
+    fn move_if(&mut self, d: u64, a: u64, b: u64) {
+        self.sink.step(6, d, a, b);
+    }
+    fn open(&mut self, a: u64) {
+        self.sink.step(7, 0, a, 0);
+    }
+
+    fn edges(mut self, public: &Public) {
+        let (n, m) = (public.n, public.m);
+        let (d, p, y, x) = (3 * m, 3 * m + n, 3 * m + 2 * n, 3 * m + 3 * n);
+        for v in 0..n {
+            self.start_vertex(public, v, y, d, p);
+        }
+        self.set(x, FAR);
+        self.set(x + 7, 0);
+        for pass in 0..n {
+            let check = pass == n - 1;
+            for i in 0..m {
+                self.price(public, i);
+                if !check {
+                    self.set(x + 3, i as i64);
+                }
+                for v in 0..n {
+                    self.equal(x + 5, m + i, y + v);
+                    self.less(x + 6, x + 2, d + v);
+                    self.both(x + 6, x + 6, x + 4);
+                    self.both(x + 6, x + 6, x + 5);
+                    if check {
+                        self.move_if(x + 7, x + 6, x + 6);
+                    } else {
+                        self.move_if(d + v, x + 6, x + 2);
+                        self.move_if(p + v, x + 6, x + 3);
+                    }
+                }
+            }
+        }
+        self.open(x + 7);
+    }
+
+    /// Fetches the distance of edge `i`'s tail and adds the weight.
+    fn price(&mut self, public: &Public, i: u64) {
+        let (n, m) = (public.n, public.m);
+        let (d, y, x) = (3 * m, 3 * m + 2 * n, 3 * m + 3 * n);
+        self.copy(x + 1, x);
+        for v in 0..n {
+            self.equal(x + 5, i, y + v);
+            self.move_if(x + 1, x + 5, d + v);
+        }
+        self.add(x + 2, x + 1, 2 * m + i);
+        self.less(x + 4, x + 1, x);
+    }
+
+    fn start_vertex(&mut self, public: &Public, v: u64, y: u64, d: u64, p: u64) {
+        self.set(y + v, v as i64);
+        self.set(d + v, if v == public.source { 0 } else { FAR });
+        self.set(p + v, -1);
+    }
+
+    fn table(mut self, public: &Public) {
+        let n = public.n;
+        let d = n * n;
+        let (p, y, o, x) = (d + n, d + 2 * n, d + 3 * n, d + 5 * n);
+        for v in 0..n {
+            self.start_vertex(public, v, y, d, p);
+            self.set(o + v, 1);
+        }
+        self.set(x, FAR);
+        self.set(x + 4, 0);
+        for _ in 0..n {
+            self.choose(n);
+            self.fetch_row(n);
+            self.relax_row(n);
+        }
+    }
+
+    /// Finds the nearest vertex still open.
+    fn choose(&mut self, n: u64) {
+        let (d, y, o, x) = (n * n, n * n + 2 * n, n * n + 3 * n, n * n + 5 * n);
+        self.copy(x + 1, x);
+        self.set(x + 3, -1);
+        for v in 0..n {
+            self.less(x + 5, d + v, x + 1);
+            self.both(x + 5, x + 5, o + v);
+            self.move_if(x + 1, x + 5, d + v);
+            self.move_if(x + 3, x + 5, y + v);
+        }
+    }
+
+    /// Copies the chosen vertex's row without telling which, and closes it.
+    fn fetch_row(&mut self, n: u64) {
+        let (y, o, r, x) = (n * n + 2 * n, n * n + 3 * n, n * n + 4 * n, n * n + 5 * n);
+        for j in 0..n {
+            self.copy(r + j, x);
+        }
+        for v in 0..n {
+            self.equal(x + 5, x + 3, y + v);
+            self.move_if(o + v, x + 5, x + 4);
+            for j in 0..n {
+                self.move_if(r + j, x + 5, v * n + j);
+            }
+        }
+    }
+
+    fn relax_row(&mut self, n: u64) {
+        let (d, p, r, x) = (n * n, n * n + n, n * n + 4 * n, n * n + 5 * n);
+        for j in 0..n {
+            self.add(x + 2, x + 1, r + j);
+            self.less(x + 5, x + 2, d + j);
+            self.move_if(d + j, x + 5, x + 2);
+            self.move_if(p + j, x + 5, x + 3);
+        }
+    }
+}
+
+/// Lays a request's fields into the needed cells; the rest of these become 0.
+pub fn lay(public: &Public, words: &[u64], cells: &mut [i64]) {
+    cells[..public.cells()].fill(0);
+    let m = public.m as usize;
+    for (i, &word) in words.iter().enumerate() {
+        let price = i64::from(word as u32 as i32);
+        if public.method == 1 {
+            cells[i] = (word >> 56) as i64;
+            cells[m + i] = (word >> 48 & 0xFF) as i64;
+            cells[2 * m + i] = price;
+        } else {
+            cells[i] = if price == -1 { FAR } else { price };
+        }
+    }
+}
+
+/// A bank of cells and the log of what was done to it.
+pub struct Machine<'a> {
+    cells: &'a mut [i64],
+    log: &'a mut [u64],
+    pub logged: usize,
+    pub rounds: u64,
+}
+
+impl<'a> Machine<'a> {
+    pub fn new(header: u64, cells: &'a mut [i64], log: &'a mut [u64]) -> Machine<'a> {
+        let mut machine = Machine {
+            cells,
+            log,
+            logged: 0,
+            rounds: 0,
+        };
+        machine.note(header);
+        machine
+    }
+
+    #[inline(always)]
+    fn note(&mut self, word: u64) {
+        self.log[self.logged] = word;
+        self.logged += 1;
+    }
+
+    #[inline(always)]
+    fn act(&mut self, op: u64, d: u64, a: u64, b: u64) {
+        self.rounds += ROUNDS[op as usize];
+        let (to, left, right) = (d as usize, a as usize, b as usize);
+        let cells = &mut *self.cells;
+        match op {
+            // Shifting up and back down spreads bit 39, the sign.
+            0 => cells[to] = ((a << 20 | b) << 24) as i64 >> 24,
+            1 => cells[to] = cells[left],
+            2 => cells[to] = cells[left].wrapping_add(cells[right]),
+            3 => cells[to] = i64::from(cells[left] < cells[right]),
+            4 => cells[to] = i64::from(cells[left] == cells[right]),
+            5 => cells[to] = i64::from(cells[left] != 0 && cells[right] != 0),
+            6 => {
+                if cells[left] != 0 {
+                    cells[to] = cells[right];
+                }
+            }
+            _ => {
+                let published = cells[left] as u64;
+                self.note(published);
+            }
+        }
+    }
+
+    pub fn interpret(&mut self, words: &[u64]) {
+        for &word in words {
+            let (op, d, a, b) = split(word);
+            self.note(word);
+            self.act(op, d, a, b);
+        }
+    }
+}
+
+impl Sink for Machine<'_> {
+    // Inlined, each place in the plan carries out only the operation it emits.
+    #[inline(always)]
+    fn step(&mut self, op: u64, d: u64, a: u64, b: u64) {
+        self.note(pack(op, d, a, b));
+        self.act(op, d, a, b);
+    }
+}
