@@ -8,3 +8,4 @@ pub mod Told
 pub mod Theorems
 pub mod Placed
 pub mod Answered
+pub mod Ahead

@@ -1,3 +1,4 @@
 pub mod Run
 pub mod Network
 pub mod Demands
+pub mod Ahead

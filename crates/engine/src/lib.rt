@@ -1,17 +1,19 @@
 // The engine: a request run on lent buffers.
 // Rests on requests (checks and intake), planner (the plan) and machine (carrying out).
+use planner::Blocks;
 use planner::Checked;
 use planner::Refusal;
 use plans::Header;
 use runner::Tally;
 ghost use mathlib.Core.Path.{_≡_};
-ghost use Prim.Native.Nat.{_+_, _≤_};
-ghost use lib.ListN.{length, drop};
+ghost use Prim.Native.Nat.{_+_, _<_, _≤_};
+ghost use lib.ListN.{length, getD, drop};
 ghost use Rattle.machine.specs.Effect.{cellAt};
 ghost use Rattle.machine.specs.Log.{cellsAfter, logOf, total, roundsOf};
-ghost use Rattle.plans.specs.Plan.{Accepted, planOf, cellsOf};
+ghost use Rattle.plans.specs.Plan.{Accepted, planOf, cellsOf, lengthOf, blocksFrom, blockSize, blocksUntil};
 ghost use Rattle.planner.specs.Written.{overwritten};
 ghost use Rattle.requests.specs.Intake.{copied, distanceCell};
+ghost use Rattle.engine.specs.Ahead.{Ahead};
 ghost use Rattle.engine.specs.Run.{verdictOf, outcome, Met};
 
 // What a run answers besides its buffers.
@@ -28,18 +30,32 @@ pub enum Answer {
     Refused(Refusal),
 }
 
+// The k-th word of the plan. Where its words repeat and nothing has been published yet, the log has it a block before.
+fn next_word(h: Header, blocks: Blocks, log: &[u64], at: usize, k: usize) -> u64
+    requires { ⌜ Accepted h × (k < lengthOf h) × (k < length (now log)) × (blocks .from ≡ blocksFrom h) × (blocks .size ≡ blockSize h) × (blocks .until ≡ blocksUntil h) × Ahead (planOf h) (now log) at k ⌝ }
+    ensures { λ r. ⌜ r ≡ getD (planOf h) k 0 ⌝ }
+{
+    if at == k && k < blocks.until && blocks.from <= k {
+        if blocks.size <= k - blocks.from {
+            return log[k - blocks.size];
+        }
+    }
+    planner::word_at(h, k)
+}
+
 // The plan of the header carried out word by word, in order, each once, and logged.
 fn carry(h: Header, cells: &mut [i64], log: &mut [u64]) -> Tally
     requires { ⌜ Accepted h × (cellsOf h ≤ length (now cells)) × (length (logOf (planOf h) (now cells)) ≤ length (now log)) ⌝ }
     ensures { λ r. ⌜ (r .rounds ≡ total roundsOf (drop 1 (planOf h))) × (r .length ≡ length (logOf (planOf h) (now (cells .entry)))) × (now (cells .exit) ≡ cellsAfter (drop 1 (planOf h)) (now (cells .entry))) × (now (log .exit) ≡ overwritten (logOf (planOf h) (now (cells .entry))) (now (log .entry))) ⌝ }
 {
     let size = planner::plan_length(h);
+    let blocks = planner::blocks_of(h);
     log[0] = planner::word_at(h, 0);
     let mut rounds: u64 = 0;
     let mut at: usize = 1;
     let mut k: usize = 1;
     while k < size {
-        let word = planner::word_at(h, k);
+        let word = next_word(h, blocks, log, at, k);
         at = machine::append(cells, log, at, word);
         machine::step(cells, word);
         rounds += machine::cost(word);

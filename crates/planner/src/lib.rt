@@ -10,7 +10,7 @@ ghost use lib.ListN.{length, getD};
 ghost use Rattle.machine.specs.Word.{encode};
 ghost use Rattle.plans.specs.Limits.{far, mostEdges};
 ghost use Rattle.plans.specs.Blocks.{starts};
-ghost use Rattle.plans.specs.Plan.{headerOf, Accepted, planOf, lengthOf};
+ghost use Rattle.plans.specs.Plan.{headerOf, Accepted, planOf, lengthOf, blocksFrom, blockSize, blocksUntil};
 ghost use Rattle.planner.specs.Refusal.{found, headerRefusal};
 ghost use Rattle.planner.specs.Written.{overwritten, WrittenPlan};
 ghost use Rattle.planner.specs.Word.{stop};
@@ -29,6 +29,13 @@ pub enum Refusal {
     Operation(usize),
     Edge(usize),
     Weight(usize),
+}
+
+// Blocks of one and the same words: the first place of the first, their length, and the place after the last.
+pub struct Blocks {
+    pub from: usize,
+    pub size: usize,
+    pub until: usize,
 }
 
 pub enum Checked {
@@ -97,6 +104,29 @@ pub fn plan_length(h: Header) -> usize
         return 3 * n + 4 + m * (8 * square + 3 * n - 1);
     }
     square * n + 11 * square + 6 * n + 3
+}
+
+// Where the words of the plan repeat: in the passes of method 1, and in the turns of method 2.
+pub fn blocks_of(h: Header) -> Blocks
+    requires { ⌜ Accepted h ⌝ }
+    ensures { λ r. ⌜ (r .from ≡ blocksFrom h) × (r .size ≡ blockSize h) × (r .until ≡ blocksUntil h) ⌝ }
+{
+    let n = h.vertices as usize;
+    if h.method == 1 {
+        let m = h.edges as usize;
+        let size = m * (8 * n + 4);
+        return Blocks {
+            from: 3 * n + 3,
+            size,
+            until: 3 * n + 3 + (n - 1) * size,
+        };
+    }
+    let size = n * n + 11 * n + 2;
+    Blocks {
+        from: 4 * n + 3,
+        size,
+        until: 4 * n + 3 + n * size,
+    }
 }
 
 // Word e of the opening's words for vertex v; y, d and p are where the vertices' numbers, distances and parents begin.

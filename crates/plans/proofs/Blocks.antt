@@ -4,7 +4,7 @@ use mathlib.Core.Path.{_≡_, refl, sym, ap, subst, _∙_}
 use mathlib.Core.Logic.{⊎-elim}
 use mathlib.Core.List.{List, [], _∷_, _++_, map}
 use Prim.Native.Nat.{ℕ, zero, suc, _+_, _*_, _/_, _%_, _<_}
-use native.Mathlib.Nat.{suc-mul, zero-mul, zero-add, add-assoc, eq-or-lt-of-le, le-of-suc-le-suc, not-suc-le-zero, le-step, lt-suc-self, div-add-mod', mod-lt, div-lt-iff-lt-mul}
+use native.Mathlib.Nat.{suc-mul, zero-mul, zero-add, add-assoc, eq-or-lt-of-le, le-of-suc-le-suc, not-suc-le-zero, eq-zero-or-pos, mul-zero, add-mod-left, le-step, lt-suc-self, div-add-mod', mod-lt, div-lt-iff-lt-mul}
 use native.Mathlib.Omega.{arith}
 use lib.Arith.{digits-lt}
 use lib.ListN.{length, getD, List·getD-append}
@@ -90,6 +90,23 @@ module _ {X : Type 0} where
         part-at parts p k j d o (omega (arith, ap length e, flat-length count))
         ∙ ap (λ (l : List X). getD l j d) e
         ∙ flat-div count j d z h
+
+-- One block over and over, as part p: a block further on stands the same element.
+module _ {X : Type 0} (block : List X) where
+  some-size : (count j : ℕ) → length block + j < count * length block → 0 < length block
+  some-size count j h =
+      ⊎-elim (λ (e : length block ≡ 0). absurd (not-suc-le-zero (simp (e, mul-zero) at h))) (λ (z : 0 < length block). z)
+      (eq-zero-or-pos (length block))
+
+  pub part-again : (parts : List (List X)) (p count k i j : ℕ) (d : X) → getD parts p [] ≡ flat count (λ t. block)
+      → k ≡ offset parts p + (length block + j) → i ≡ offset parts p + j → length block + j < count * length block
+      → getD (concat parts) k d ≡ getD (concat parts) i d
+  part-again parts p count k i j d e a b h =
+      let z = some-size count j h in
+      let at = part-div (length block) (λ t. block) (λ t. refl) parts p count in
+      at k (length block + j) d e z a h
+      ∙ ap (λ (r : ℕ). getD block r d) (add-mod-left (length block) j)
+      ∙ sym (at i j d e z b (omega arith))
 
 -- One element for each place.
 module _ {X : Type 0} (f : ℕ → X) (count : ℕ) where

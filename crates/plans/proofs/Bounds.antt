@@ -12,6 +12,12 @@ module _ (n : ℕ) (few : n ≤ 32) where
   pub cube-le : n * n * n ≤ 32768
   cube-le = mul-le-mul {n₁ = n * n} {m₁ = n} {n₂ = 1024} {m₂ = 32} square-le few
 
+  pub turn-small : n * n + 11 * n + 2 ≤ 1378
+  turn-small = omega (arith, square-le)
+
+  pub turns-small : n * (n * n + 11 * n + 2) ≤ 44096
+  turns-small = mul-le-mul {n₁ = n} {m₁ = n * n + 11 * n + 2} {n₂ = 32} {m₂ = 1378} few turn-small
+
   -- Where row v of the table starts.
   pub row-small : (v : ℕ) → v < n → v * n ≤ 992
   row-small v h = mul-le-mul {n₁ = v} {m₁ = n} {n₂ = 31} {m₂ = 32} (omega arith) few

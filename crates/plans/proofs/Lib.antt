@@ -7,3 +7,4 @@ pub mod Figures
 pub mod Same
 pub mod At1
 pub mod At2
+pub mod Repeats

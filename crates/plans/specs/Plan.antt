@@ -54,3 +54,19 @@ roundsOfPlan h =
     let n = h .vertices in
     byMethod (h .method) 0
     ((3 * n + 3 + h .edges * (23 * (n * n) + 6 * n - 1)) ∷ (n * n * n + 24 * (n * n) + 5 * n + 2) ∷ [])
+
+-- Where its words repeat: the passes of method 1 and the turns of method 2 are one block over and over. The first place of the first,
+-- their length, and the place after the last.
+unfoldable pub blocksFrom : Header → ℕ
+blocksFrom h = byMethod (h .method) 0 ((3 * h .vertices + 3) ∷ (4 * h .vertices + 3) ∷ [])
+
+unfoldable pub blockSize : Header → ℕ
+blockSize h =
+    let n = h .vertices in
+    byMethod (h .method) 0 (h .edges * (8 * n + 4) ∷ (n * n + 11 * n + 2) ∷ [])
+
+unfoldable pub blocksUntil : Header → ℕ
+blocksUntil h =
+    let n = h .vertices in
+    byMethod (h .method) 0
+    ((3 * n + 3 + (n - 1) * (h .edges * (8 * n + 4))) ∷ (4 * n + 3 + n * (n * n + 11 * n + 2)) ∷ [])
