@@ -6,6 +6,8 @@ same without the published cells.
 """
 
 import argparse
+import codecs
+import os
 import re
 import signal
 import struct
@@ -44,9 +46,22 @@ word that is no instruction would end the run, so only those before it count."""
 COMPARISON_FORMAT = """\
 `compare` prints `equal, N words`, exit status 0, or the first place at which A
 and B differ, in the header, an operation, a published word or only in length,
-with both words as `list` shows them, exit status 1.
+with both words as `list` shows them, exit status 1."""
 
-Bad input is said on standard error, exit status 2."""
+BAD_INPUT = """\
+Bad input is said on standard error with the name of the file, exit status 2: a
+file that cannot be read, a last word of fewer than eight bytes, with --hex
+anything but words of 16 digits, and for `compare` one file as both A and B.
+
+Hexadecimal text without --hex is bad input too, for its bytes would pass for
+words: a file of nothing but hexadecimal digits, blanks and line ends is taken
+for such text. The log of a request never looks so, since its second byte is 0
+(yards are at most 32). The log of a foreign plan could, if it has another
+header than a request's: --bytes reads whatever there is as bytes.
+
+A file without words is bad input too: it is what a command that failed leaves
+behind. The one log that is empty, that of an empty foreign plan, has nothing
+to list or to compare."""
 
 HEADER, OPERATION, PUBLISHED = "the header", "an operation", "a published word"
 
@@ -171,11 +186,25 @@ def print_comparison(first, second, is_plan):
     return False
 
 
+def looks_like_text(data):
+    """Whether these are hexadecimal digits and blanks alone; the header of a request has a byte 0 and so never looks so."""
+    return re.fullmatch(rb"[0-9A-Fa-f\s]+", data.removeprefix(codecs.BOM_UTF8)) is not None
+
+
 def words_of_bytes(data):
     """The words of a file of eight bytes each."""
     if len(data) % 8:
-        raise BadInput(f"{len(data)} bytes, expected a multiple of 8 (hexadecimal text needs --hex)")
+        raise BadInput(f"{len(data)} bytes, expected a multiple of 8")
     return struct.unpack(f">{len(data) // 8}Q", data)
+
+
+def shown(text):
+    """The text as a message quotes it: its first 20 characters, the bytes in hexadecimal for those that do not print."""
+    start = ""
+    for sign in text[:20]:
+        escaped = (f"\\x{byte:02x}" for byte in sign.encode(errors="surrogateescape"))
+        start += sign if sign.isprintable() else "".join(escaped)
+    return start if len(text) <= 20 else start + ".."
 
 
 def words_of_text(text):
@@ -184,39 +213,83 @@ def words_of_text(text):
     for number, line in enumerate(text.split("\n"), start=1):
         for digits in line.split():
             if not re.fullmatch("[0-9A-Fa-f]{16}", digits):
-                raise BadInput(f"line {number}: `{digits}` is no word, expected 16 hexadecimal digits")
+                raise BadInput(f"line {number}: `{shown(digits)}` is no word, expected 16 hexadecimal digits")
             words.append(int(digits, 16))
     return words
 
 
-def read_words(file, as_text):
+def words_in(data, form):
+    """The words of a file in this form, `hex` or `bytes`; with no form told they are bytes that do not look like text."""
+    if form == "hex":
+        words = words_of_text(data.decode("utf-8-sig", errors="surrogateescape"))
+    elif form is None and looks_like_text(data):
+        raise BadInput("looks like hexadecimal text: --hex reads it (or --bytes, if it is a log of bytes all the same)")
+    else:
+        words = words_of_bytes(data)
+    if not words:
+        raise BadInput("empty, expected at least a header word")
+    return words
+
+
+def read_words(file, form):
     """The words that the file holds; complaints begin with its name."""
     try:
-        data = Path(file).read_bytes()
-        return words_of_text(data.decode("utf-8-sig", errors="replace")) if as_text else words_of_bytes(data)
+        return words_in(Path(file).read_bytes(), form)
     except OSError as error:
         raise BadInput(f"{file}: cannot be read: {error.strerror}") from error
     except BadInput as error:
         raise BadInput(f"{file}: {error}") from error
 
 
+def same_file(first, second):
+    """Whether the two names are of one file; of a file that is not there, reading it will complain."""
+    try:
+        return os.path.samefile(first, second)
+    except OSError:
+        return False
+
+
+def read_pair(first, second, form):
+    """The words of each of two files, which have to be two: a file always equals itself."""
+    if same_file(first, second):
+        raise BadInput(f"{second}: A and B are both this file, expected two files")
+    return read_words(first, form), read_words(second, form)
+
+
 def parse_arguments(arguments):
     """The command line's options."""
     layout = argparse.RawDescriptionHelpFormatter
     common = argparse.ArgumentParser(add_help=False)
-    common.add_argument("--hex", action="store_true", help="the words are hexadecimal text, not bytes")
+    form = common.add_mutually_exclusive_group()
+    form.add_argument(
+        "--hex", dest="form", action="store_const", const="hex", help="the words are hexadecimal text, not bytes"
+    )
+    form.add_argument(
+        "--bytes", dest="form", action="store_const", const="bytes", help="the words are bytes, even if they look like text"
+    )
     common.add_argument("--plan", action="store_true", help="what is read is a plan, not a log: it has no published words")
 
     parser = argparse.ArgumentParser(
-        prog="log.py", description=DESCRIPTION, epilog=f"{LISTING_FORMAT}\n\n{COMPARISON_FORMAT}", formatter_class=layout
+        prog="log.py",
+        description=DESCRIPTION,
+        epilog=f"{LISTING_FORMAT}\n\n{COMPARISON_FORMAT}\n\n{BAD_INPUT}",
+        formatter_class=layout,
     )
     commands = parser.add_subparsers(dest="command", metavar="list | compare", required=True)
     listing = commands.add_parser(
-        "list", parents=[common], help="list a plan or a log", epilog=LISTING_FORMAT, formatter_class=layout
+        "list",
+        parents=[common],
+        help="list a plan or a log",
+        epilog=f"{LISTING_FORMAT}\n\n{BAD_INPUT}",
+        formatter_class=layout,
     )
     listing.add_argument("file", metavar="FILE")
     comparison = commands.add_parser(
-        "compare", parents=[common], help="compare two logs", epilog=COMPARISON_FORMAT, formatter_class=layout
+        "compare",
+        parents=[common],
+        help="compare two logs",
+        epilog=f"{COMPARISON_FORMAT}\n\n{BAD_INPUT}",
+        formatter_class=layout,
     )
     comparison.add_argument("first", metavar="A")
     comparison.add_argument("second", metavar="B")
@@ -228,9 +301,9 @@ def main(arguments=None):
     options = parse_arguments(arguments)
     try:
         if options.command == "list":
-            print_listing(read_words(options.file, options.hex), options.plan)
+            print_listing(read_words(options.file, options.form), options.plan)
             return 0
-        first, second = (read_words(file, options.hex) for file in (options.first, options.second))
+        first, second = read_pair(options.first, options.second, options.form)
         return 0 if print_comparison(first, second, options.plan) else 1
     except BadInput as error:
         print(f"log.py: {error}", file=sys.stderr)

@@ -6,10 +6,11 @@ read and the messages keep document 01's own words.
 """
 
 import argparse
+import difflib
 import re
 import signal
 import sys
-from pathlib import Path
+from itertools import chain
 from typing import NamedTuple
 
 DESCRIPTION = """\
@@ -28,8 +29,13 @@ The text, line by line; what follows a # and blank lines are passed over:
   row - 0           each yard, yard 0 first; - (or -1) where there is no lane
 
 Prices go from -1000000 to 1000000 in method 1, from 0 to 1000000 in method 2.
-Bad text is answered on standard error with the line and what was expected,
-nothing is written, and the exit status is 1.
+Every number is whole, in decimal digits, with - before them if it is negative.
+
+Bad text is answered on standard error: for each bad line a message with the
+file, the line and what was expected there, then one for each thing that is
+missing. What cannot be told before other lines are mended is left out, such as
+too many prices in a row while the number of yards is not known. Nothing is
+written, and the exit status is 1, as it is when a file cannot be used.
 
 With --unchecked a number only has to fit its bit field (method 4 bits, yards,
 lanes and source 20, a lane's yards 8, a price 32 in two's complement), and
@@ -38,10 +44,26 @@ header counts the `lane` lines. So requests can be made that are refused."""
 
 
 class BadText(Exception):
-    """What is wrong with the text, where, and what was expected there."""
+    """A text that makes no request, with all the messages that say why."""
 
-    def __init__(self, where, wrong, expected):
-        super().__init__(f"{where}: {wrong}, expected {expected}")
+    def __init__(self, messages):
+        super().__init__("\n".join(messages))
+        self.messages = messages
+
+
+class BadFile(Exception):
+    """A file that cannot be read or written."""
+
+
+class Complaint(NamedTuple):
+    """What is wrong at a line of the text, and what was expected there."""
+
+    number: int
+    wrong: str
+    expected: object
+
+    def __str__(self):
+        return f"line {self.number}: {self.wrong}, expected {self.expected}"
 
 
 class Range(NamedTuple):
@@ -54,6 +76,11 @@ class Range(NamedTuple):
     def __str__(self):
         return f"{self.low} to {self.high}{self.remark}"
 
+    def takes(self, value):
+        """Whether this text writes a number of the range."""
+        # No field takes 20 digits, and Python reads no more than some thousands.
+        return is_number(value) and len(value) <= 20 and self.low <= int(value) <= self.high
+
 
 class Limits(NamedTuple):
     """Which numbers the text may give."""
@@ -64,6 +91,7 @@ class Limits(NamedTuple):
     source: Range
     vertex: Range
     weight: Range
+    entry: Range
 
 
 class Line(NamedTuple):
@@ -74,9 +102,11 @@ class Line(NamedTuple):
     values: list
 
     @property
-    def where(self):
-        """The line as messages name it."""
-        return f"line {self.number}"
+    def meant(self):
+        """The keyword, or the one that an unknown word looks most like, or None if it looks like none."""
+        if self.keyword in FORMS:
+            return self.keyword
+        return next(iter(difflib.get_close_matches(self.keyword.lower(), FORMS, n=1)), None)
 
 
 # How a line that starts with each keyword goes on; a row has as many prices as the text has yards.
@@ -87,6 +117,8 @@ FORMS = {
     "lane": "lane FROM-YARD TO-YARD PRICE",
     "row": "row PRICE PRICE ..",
 }
+
+HEADER = ("method", "yards", "source")
 
 NO_EDGE = -1
 
@@ -108,9 +140,10 @@ BIT_FIELDS = Limits(
     source=unsigned(20),
     vertex=unsigned(8),
     weight=signed(32),
+    entry=signed(32),
 )
 
-# Document 01's own limits, for as long as method and number of vertices are not known.
+# Document 01's own limits, for as long as the number of vertices is not known.
 RULES = Limits(
     method=Range(1, 2),
     vertices=Range(1, 32),
@@ -118,97 +151,145 @@ RULES = Limits(
     source=Range(0, 31),
     vertex=Range(0, 31),
     weight=Range(-1_000_000, 1_000_000),
+    entry=Range(NO_EDGE, 1_000_000, " (-1 or - for no lane)"),
 )
 
 
-def rules_for(method, vertices):
-    """Document 01's own limits in a request of this method with so many vertices."""
+def limits_for(vertices, unchecked):
+    """Which numbers a text with so many vertices may give, or one that does not say how many."""
+    if unchecked:
+        return BIT_FIELDS
+    if vertices is None:
+        return RULES
     below = Range(0, vertices - 1)
-    weight = Range(NO_EDGE, 1_000_000, " (-1 or - for no lane)") if method == 2 else RULES.weight
-    return RULES._replace(source=below, vertex=below, weight=weight)
+    return RULES._replace(source=below, vertex=below)
+
+
+def is_number(value):
+    """Whether this text writes a whole number."""
+    return re.fullmatch("-?[0-9]+", value) is not None
 
 
 def lines_of(text):
-    """The lines that say something, each with a known keyword and as many values as it takes."""
+    """The lines that say something."""
     lines = []
     for number, line in enumerate(text.split("\n"), start=1):
         parts = line.partition("#")[0].split()
         if parts:
             lines.append(Line(number, parts[0], parts[1:]))
-    for line in lines:
-        check_form(line)
     return lines
 
 
-def check_form(line):
-    """Complains of an unknown keyword, or of too many or too few values after it."""
-    if line.keyword not in FORMS:
-        raise BadText(line.where, f"unknown word `{line.keyword}`", "one of " + ", ".join(FORMS))
-    form = FORMS[line.keyword]
-    if line.keyword != "row" and len(line.values) != len(form.split()) - 1:
-        raise BadText(line.where, f"wrong number of values after `{line.keyword}` ({len(line.values)})", f"`{form}`")
+def having(lines, keyword):
+    """The lines that have this keyword."""
+    return [line for line in lines if line.keyword == keyword]
 
 
-def number_in(line, value, name, allowed):
-    """The number that `value` writes, if it is one of those allowed; messages call it `name`."""
-    if not re.fullmatch("-?[0-9]+", value):
-        raise BadText(line.where, f"{name} `{value}` is no number", allowed)
-    # No field takes 20 digits, and Python reads no more than some thousands.
-    if len(value) > 20 or not allowed.low <= int(value) <= allowed.high:
-        raise BadText(line.where, f"{name} {value} is out of range", allowed)
-    return int(value)
+def known_number(lines, keyword, allowed):
+    """The number that the text gives after this keyword, or None if it gives none, one that is not allowed, or several."""
+    given = {" ".join(line.values) for line in having(lines, keyword)}
+    value = given.pop() if len(given) == 1 else ""
+    return int(value) if allowed.takes(value) else None
 
 
-def end_of(lines):
-    """The place at which something missing is noticed, as messages name it."""
-    return f"after line {lines[-1].number if lines else 0}"
+def form_complaints(lines):
+    """Complains of unknown keywords, and of too many or too few values after one."""
+    for number, keyword, values in lines:
+        form = FORMS.get(keyword)
+        if form is None:
+            yield Complaint(number, f"unknown word `{keyword}`", "one of " + ", ".join(FORMS))
+        elif keyword != "row" and len(values) != len(form.split()) - 1:
+            yield Complaint(number, f"wrong number of values after `{keyword}` ({len(values)})", f"`{form}`")
 
 
-def only_line(lines, keyword):
-    """The one line of the text that has this keyword."""
-    found = [line for line in lines if line.keyword == keyword]
-    if not found:
-        raise BadText(end_of(lines), f"the text has no `{keyword}`", f"a line `{FORMS[keyword]}`")
-    if len(found) > 1:
-        raise BadText(found[1].where, f"`{keyword}` was given on line {found[0].number}", "it once")
-    return found[0]
+def repeat_complaints(lines):
+    """Complains of a keyword of the header that was given before."""
+    for keyword in HEADER:
+        given = having(lines, keyword)
+        for line in given[1:]:
+            yield Complaint(line.number, f"`{keyword}` was given on line {given[0].number}", "it once")
 
 
-def header_number(lines, keyword, allowed):
-    """The number on the one line that has this keyword."""
-    line = only_line(lines, keyword)
-    return number_in(line, line.values[0], keyword, allowed)
+def edge_complaints(lines, allowed):
+    """Complains of the first edge that is one too many."""
+    for line in having(lines, "lane")[allowed.high : allowed.high + 1]:
+        yield Complaint(line.number, "one lane too many", f"at most {allowed.high} lanes")
 
 
-def edge_count(lines, allowed):
-    """The number of edges in the text, if it is one of those allowed."""
-    edges = [line for line in lines if line.keyword == "lane"]
-    if len(edges) > allowed.high:
-        raise BadText(edges[allowed.high].where, "one lane too many", f"at most {allowed.high} lanes")
-    return len(edges)
-
-
-def check_body(lines, method, vertices):
-    """Complains of lines that are not of this method, and of a table in method 2 that is not square."""
+def method_complaints(lines, method):
+    """Complains of lines that are not of this method."""
     own, other = ("row", "lane") if method == 2 else ("lane", "row")
-    for line in lines:
-        if line.keyword == other:
-            raise BadText(line.where, f"`{other}` in method {method}", f"`{FORMS[own]}`")
-    if method == 2:
-        check_table(lines, vertices)
+    for line in having(lines, other):
+        yield Complaint(line.number, f"`{other}` in method {method}", f"`{FORMS[own]}`")
 
 
-def check_table(lines, vertices):
-    """Complains of too many or too few rows, and of too many or too few weights in a row."""
+def table_complaints(lines, vertices):
+    """Complains of the first row that is one too many, and of too many or too few weights in a row."""
     expected = f"{vertices}, one for each yard"
-    rows = [line for line in lines if line.keyword == "row"]
-    for row in rows:
-        if len(row.values) != vertices:
-            raise BadText(row.where, f"wrong number of prices in the row ({len(row.values)})", expected)
-    if len(rows) > vertices:
-        raise BadText(rows[vertices].where, "one row too many", expected)
-    if len(rows) < vertices:
-        raise BadText(end_of(lines), f"too few rows ({len(rows)})", expected)
+    rows = having(lines, "row")
+    for line in rows[vertices : vertices + 1]:
+        yield Complaint(line.number, "one row too many", expected)
+    for line in rows:
+        if len(line.values) != vertices:
+            yield Complaint(line.number, f"wrong number of prices in the row ({len(line.values)})", expected)
+
+
+def fields_of(line, limits):
+    """What messages call each value of a line, and which numbers it may be."""
+    if line.keyword == "row":
+        return [("price", limits.entry)] * len(line.values)
+    fields = {
+        "method": [("method", limits.method)],
+        "yards": [("yards", limits.vertices)],
+        "source": [("source", limits.source)],
+        "lane": [("from-yard", limits.vertex), ("to-yard", limits.vertex), ("price", limits.weight)],
+    }
+    return fields.get(line.keyword, [])
+
+
+def number_complaints(lines, limits):
+    """Complains of values that are no numbers, or none of those allowed."""
+    for line in lines:
+        for (name, allowed), value in zip(fields_of(line, limits), line.values):
+            is_no_edge = line.keyword == "row" and value == "-"
+            if not is_no_edge and not allowed.takes(value):
+                wrong = f"{value} is out of range" if is_number(value) else f"`{value}` is no whole number"
+                yield Complaint(line.number, f"{name} {wrong}", allowed)
+
+
+def missing(lines, method, vertices):
+    """Complains, at the last line, of what the text lacks, unless a bad line looks like an attempt at it."""
+    last = lines[-1].number if lines else 0
+    meant = [line.meant for line in lines]
+    for keyword in HEADER:
+        if keyword not in meant:
+            yield Complaint(last, f"the text has no `{keyword}`", f"a line `{FORMS[keyword]}`")
+    rows = meant.count("row")
+    # Edges in method 2 were complained of, and stand where the rows should.
+    if method == 2 and vertices is not None and rows < vertices and "lane" not in meant:
+        yield Complaint(last, f"too few rows ({rows})", f"{vertices}, one for each yard")
+
+
+def messages_for(lines, unchecked):
+    """All that is wrong with the text: of each bad line what is found first, in the order of the text, then what is missing."""
+    limits = limits_for(None, unchecked)
+    vertices = known_number(lines, "yards", limits.vertices)
+    limits = limits_for(vertices, unchecked)
+    # Unchecked, the body is of any method and goes with any number of vertices.
+    method = None if unchecked else known_number(lines, "method", limits.method)
+    found = chain(
+        form_complaints(lines),
+        repeat_complaints(lines),
+        [] if method is None else method_complaints(lines, method),
+        edge_complaints(lines, limits.edges),
+        [] if unchecked or vertices is None else table_complaints(lines, vertices),
+        number_complaints(lines, limits),
+    )
+    of_line = {}
+    for complaint in found:
+        of_line.setdefault(complaint.number, complaint)
+    messages = [str(of_line[number]) for number in sorted(of_line)]
+    return messages + [f"after {complaint}" for complaint in missing(lines, method, vertices)]
 
 
 def pack(*fields):
@@ -219,55 +300,66 @@ def pack(*fields):
     return word
 
 
-def edge_word(line, limits):
+def header_word(lines):
+    """The word of the header, which counts the edges."""
+    method, vertices, source = (int(having(lines, keyword)[0].values[0]) for keyword in HEADER)
+    return pack((method, 4), (vertices, 20), (len(having(lines, "lane")), 20), (source, 20))
+
+
+def edge_word(line):
     """The word of a `lane` line."""
-    tail = number_in(line, line.values[0], "from-yard", limits.vertex)
-    head = number_in(line, line.values[1], "to-yard", limits.vertex)
-    weight = number_in(line, line.values[2], "price", limits.weight)
+    tail, head, weight = map(int, line.values)
     return pack((tail, 8), (head, 8), (0, 16), (weight, 32))
 
 
-def row_words(line, limits):
+def row_words(line):
     """The words of a `row` line, one for each of its weights."""
-    weights = [NO_EDGE if value == "-" else number_in(line, value, "price", limits.weight) for value in line.values]
+    weights = [NO_EDGE if value == "-" else int(value) for value in line.values]
     return [pack((0, 32), (weight, 32)) for weight in weights]
 
 
-def body_words(lines, limits):
+def body_words(lines):
     """The words after the header, in the order of the text."""
     words = []
     for line in lines:
         if line.keyword == "lane":
-            words.append(edge_word(line, limits))
+            words.append(edge_word(line))
         elif line.keyword == "row":
-            words.extend(row_words(line, limits))
+            words.extend(row_words(line))
     return words
 
 
 def request_words(text, unchecked=False):
     """The words of the request that the text describes."""
     lines = lines_of(text)
-    limits = BIT_FIELDS if unchecked else RULES
-    method = header_number(lines, "method", limits.method)
-    vertices = header_number(lines, "yards", limits.vertices)
-    limits = BIT_FIELDS if unchecked else rules_for(method, vertices)
-    source = header_number(lines, "source", limits.source)
-    if not unchecked:
-        check_body(lines, method, vertices)
-    edges = edge_count(lines, limits.edges)
-    return [pack((method, 4), (vertices, 20), (edges, 20), (source, 20))] + body_words(lines, limits)
+    messages = messages_for(lines, unchecked)
+    if messages:
+        raise BadText(messages)
+    return [header_word(lines)] + body_words(lines)
+
+
+def name_of(file):
+    """The file as messages name it."""
+    return "standard input" if file == "-" else file
 
 
 def read_text(file):
-    """The text of the file, or of standard input when there is none."""
-    data = Path(file).read_bytes() if file else sys.stdin.buffer.read()
-    return data.decode("utf-8-sig", errors="replace")
+    """The text of the file, or of standard input."""
+    is_input = file == "-"
+    try:
+        with open(0 if is_input else file, "rb", closefd=not is_input) as origin:
+            return origin.read().decode("utf-8-sig", errors="replace")
+    except OSError as error:
+        raise BadFile(f"{name_of(file)}: cannot be read: {error.strerror}") from error
 
 
 def write_bytes(data, file):
     """Writes to the file, or to standard output when there is none."""
-    with open(file or sys.stdout.fileno(), "wb", closefd=bool(file)) as sink:
-        sink.write(data)
+    try:
+        with open(1 if file is None else file, "wb", closefd=file is not None) as sink:
+            sink.write(data)
+    except OSError as error:
+        raise BadFile(f"{'standard output' if file is None else file}: cannot be written: {error.strerror}") from error
 
 
 def encoded(words, as_text):
@@ -285,7 +377,7 @@ def parse_arguments(arguments):
         epilog=TEXT_FORMAT,
         formatter_class=argparse.RawDescriptionHelpFormatter,
     )
-    parser.add_argument("file", metavar="FILE", nargs="?", help="the text; standard input when left out")
+    parser.add_argument("file", metavar="FILE", nargs="?", default="-", help="the text; standard input if - or left out")
     parser.add_argument("-o", dest="output", metavar="FILE", help="write to this file, not to standard output")
     parser.add_argument("--hex", action="store_true", help="write the words in hexadecimal, one a line")
     parser.add_argument("--unchecked", action="store_true", help="test only that each number fits its bit field")
@@ -293,15 +385,19 @@ def parse_arguments(arguments):
 
 
 def main(arguments=None):
-    """Writes the request and returns 0, or says what is wrong and returns 1."""
+    """Writes the request and returns 0, or says all that is wrong and returns 1."""
     options = parse_arguments(arguments)
     try:
         words = request_words(read_text(options.file), options.unchecked)
         write_bytes(encoded(words, options.hex), options.output)
-    except (BadText, OSError) as error:
-        print(f"request.py: {error}", file=sys.stderr)
-        return 1
-    return 0
+        return 0
+    except BadText as error:
+        messages = [f"{name_of(options.file)}: {message}" for message in error.messages]
+    except BadFile as error:
+        messages = [str(error)]
+    for message in messages:
+        print(f"request.py: {message}", file=sys.stderr)
+    return 1
 
 
 if __name__ == "__main__":

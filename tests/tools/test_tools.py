@@ -4,6 +4,7 @@ The plans that log.py is shown are written here a second time, from document 01'
 held against figures the document prints.
 """
 
+import codecs
 import contextlib
 import io
 import random
@@ -11,6 +12,7 @@ import subprocess
 import sys
 import tempfile
 import unittest
+from itertools import product
 from pathlib import Path
 
 TOOLS = Path(__file__).resolve().parents[2] / "tools"
@@ -204,84 +206,190 @@ class RequestMessages(WithFolder):
     HEADER_1 = "method 1\nyards 2\nsource 0\n"
     HEADER_2 = "method 2\nyards 2\nsource 0\n"
 
-    def complaint(self, text, *options):
-        """What request.py says of a bad text; it must write nothing and end with status 1."""
-        output = self.folder / "request"
-        status, _, errors = run(request, self.file("text", text.encode()), "-o", output, *options)
-        self.assertEqual(status, 1)
+    def complaints(self, text, *options):
+        """What request.py says of a bad text, a message a line; it must write nothing and end with status 1."""
+        path, output = self.file("text", text.encode()), self.folder / "request"
+        status, printed, errors = run(request, path, "-o", output, *options)
+        self.assertEqual((status, printed), (1, ""))
         self.assertFalse(output.exists())
-        return errors
+        start = f"request.py: {path}: "
+        lines = errors.splitlines()
+        self.assertEqual([line for line in lines if not line.startswith(start)], [])
+        return [line.removeprefix(start) for line in lines]
 
     def test_each_complaint(self):
         cases = {
-            "method 1\nyard 2\n": "line 2: unknown word `yard`, expected one of method, yards, source, lane, row",
-            "method 1\nyards\n": "line 2: wrong number of values after `yards` (0), expected `yards NUMBER`",
+            self.HEADER_1 + "x 1\n": "line 4: unknown word `x`, expected one of method, yards, source, lane, row",
+            "method 1\nyards\nsource 0\n": "line 2: wrong number of values after `yards` (0), expected `yards NUMBER`",
             self.HEADER_1 + "lane 0 1\n": "line 4: wrong number of values after `lane` (2), "
             "expected `lane FROM-YARD TO-YARD PRICE`",
-            "": "after line 0: the text has no `method`, expected a line `method NUMBER`",
+            "yards 1\nsource 0\n": "after line 2: the text has no `method`, expected a line `method NUMBER`",
             "method 1\nsource 0\n": "after line 2: the text has no `yards`, expected a line `yards NUMBER`",
             "method 1\n\nyards 1\n": "after line 3: the text has no `source`, expected a line `source YARD`",
             self.HEADER_1 + "method 1\n": "line 4: `method` was given on line 1, expected it once",
             self.HEADER_1 + "yards 2\n": "line 4: `yards` was given on line 2, expected it once",
             self.HEADER_1 + "source 0\n": "line 4: `source` was given on line 3, expected it once",
-            "method one\n": "line 1: method `one` is no number, expected 1 to 2",
-            "method 3\n": "line 1: method 3 is out of range, expected 1 to 2",
-            "method 1\nyards 0\n": "line 2: yards 0 is out of range, expected 1 to 32",
-            "method 1\nyards 33\n": "line 2: yards 33 is out of range, expected 1 to 32",
+            "method one\nyards 1\nsource 0\n": "line 1: method `one` is no whole number, expected 1 to 2",
+            "method 3\nyards 1\nsource 0\n": "line 1: method 3 is out of range, expected 1 to 2",
+            "method 1\nyards 0\nsource 0\n": "line 2: yards 0 is out of range, expected 1 to 32",
+            "method 1\nyards 33\nsource 0\n": "line 2: yards 33 is out of range, expected 1 to 32",
             "method 1\nyards 2\nsource 2\n": "line 3: source 2 is out of range, expected 0 to 1",
             self.HEADER_1 + "lane 2 0 0\n": "line 4: from-yard 2 is out of range, expected 0 to 1",
             self.HEADER_1 + "lane 0 -1 0\n": "line 4: to-yard -1 is out of range, expected 0 to 1",
-            self.HEADER_1 + "lane 0 1 1e3\n": "line 4: price `1e3` is no number, expected -1000000 to 1000000",
+            self.HEADER_1 + "lane 0 1 1e3\n": "line 4: price `1e3` is no whole number, expected -1000000 to 1000000",
+            self.HEADER_1 + "lane 0 1 1.5\n": "line 4: price `1.5` is no whole number, expected -1000000 to 1000000",
             self.HEADER_1 + "lane 0 1 1000001\n": "line 4: price 1000001 is out of range, expected -1000000 to 1000000",
-            self.HEADER_1 + "lane 0 1 -\n": "line 4: price `-` is no number, expected -1000000 to 1000000",
+            self.HEADER_1 + "lane 0 1 -\n": "line 4: price `-` is no whole number, expected -1000000 to 1000000",
             self.HEADER_1 + "lane 0 1 " + "9" * 5000: f"line 4: price {'9' * 5000} is out of range, "
             "expected -1000000 to 1000000",
-            self.HEADER_1 + "lane 0 1 0\n" * 129: "line 132: one lane too many, expected at most 128 lanes",
+            self.HEADER_1 + "lane 0 1 0\n" * 131: "line 132: one lane too many, expected at most 128 lanes",
             self.HEADER_1 + "row 0 0\n": "line 4: `row` in method 1, expected `lane FROM-YARD TO-YARD PRICE`",
             self.HEADER_2 + "lane 0 1 0\n": "line 4: `lane` in method 2, expected `row PRICE PRICE ..`",
             self.HEADER_2 + "row 0\nrow 0 0\n": "line 4: wrong number of prices in the row (1), "
             "expected 2, one for each yard",
-            self.HEADER_2 + "row 0 0\n" * 3: "line 6: one row too many, expected 2, one for each yard",
+            self.HEADER_2 + "row 0 0\n" * 4: "line 6: one row too many, expected 2, one for each yard",
             self.HEADER_2 + "row 0 0\n": "after line 4: too few rows (1), expected 2, one for each yard",
             self.HEADER_2 + "row 0 -2\nrow 0 0\n": "line 4: price -2 is out of range, "
             "expected -1 to 1000000 (-1 or - for no lane)",
-            self.HEADER_2 + "row 0 0\nrow 0 x\n": "line 5: price `x` is no number, "
+            self.HEADER_2 + "row 0 0\nrow 0 x\n": "line 5: price `x` is no whole number, "
             "expected -1 to 1000000 (-1 or - for no lane)",
         }
         for text, message in cases.items():
             with self.subTest(message):
-                self.assertEqual(self.complaint(text), f"request.py: {message}\n")
+                self.assertEqual(self.complaints(text), [message])
 
     def test_each_complaint_when_unchecked(self):
         cases = {
-            "method 16\n": "line 1: method 16 is out of range, expected 0 to 15 (4 bits)",
-            "method 1\nyards 1048576\n": "line 2: yards 1048576 is out of range, expected 0 to 1048575 (20 bits)",
+            "method 16\nyards 1\nsource 0\n": "line 1: method 16 is out of range, expected 0 to 15 (4 bits)",
+            "method 1\nyards 1048576\nsource 0\n": "line 2: yards 1048576 is out of range, "
+            "expected 0 to 1048575 (20 bits)",
             "method 1\nyards 1\nsource -1\n": "line 3: source -1 is out of range, expected 0 to 1048575 (20 bits)",
             self.HEADER_1 + "lane 256 0 0\n": "line 4: from-yard 256 is out of range, expected 0 to 255 (8 bits)",
             self.HEADER_2 + "row 2147483648\n": "line 4: price 2147483648 is out of range, "
             "expected -2147483648 to 2147483647 (32 bits)",
-            "yards 1\n": "after line 1: the text has no `method`, expected a line `method NUMBER`",
+            self.HEADER_1 + "lane 0 0 1.5\n": "line 4: price `1.5` is no whole number, "
+            "expected -2147483648 to 2147483647 (32 bits)",
+            "yards 1\nsource 0\n": "after line 2: the text has no `method`, expected a line `method NUMBER`",
         }
         for text, message in cases.items():
             with self.subTest(message):
-                self.assertEqual(self.complaint(text, "--unchecked"), f"request.py: {message}\n")
+                self.assertEqual(self.complaints(text, "--unchecked"), [message])
+
+    def test_every_bad_line_in_order(self):
+        text = "method 1\nlane 0 1 1.5\nyards 2\nlane 2 x y\n\nlane 0 1 5\nsource 7 # far\nlanes 0 0 0\nlane 0\n"
+        expected = [
+            "line 2: price `1.5` is no whole number, expected -1000000 to 1000000",
+            "line 4: from-yard 2 is out of range, expected 0 to 1",
+            "line 7: source 7 is out of range, expected 0 to 1",
+            "line 8: unknown word `lanes`, expected one of method, yards, source, lane, row",
+            "line 9: wrong number of values after `lane` (1), expected `lane FROM-YARD TO-YARD PRICE`",
+        ]
+        self.assertEqual(self.complaints(text), expected)
+
+    def test_every_bad_line_when_unchecked(self):
+        text = "method 16\nyards 0\nsource 0\nlane 0 256 0\nrow 0 x -\nrow\n"
+        expected = [
+            "line 1: method 16 is out of range, expected 0 to 15 (4 bits)",
+            "line 4: to-yard 256 is out of range, expected 0 to 255 (8 bits)",
+            "line 5: price `x` is no whole number, expected -2147483648 to 2147483647 (32 bits)",
+        ]
+        self.assertEqual(self.complaints(text, "--unchecked"), expected)
+
+    def test_what_is_missing_comes_last(self):
+        lacks = "the text has no `{}`, expected a line `{}`".format
+        empty = [lacks("method", "method NUMBER"), lacks("yards", "yards NUMBER"), lacks("source", "source YARD")]
+        self.assertEqual(self.complaints(""), [f"after line 0: {message}" for message in empty])
+        expected = [
+            "line 1: to-yard 32 is out of range, expected 0 to 31",
+            "line 2: price -2 is out of range, expected -1 to 1000000 (-1 or - for no lane)",
+            f"after line 3: {lacks('method', 'method NUMBER')}",
+            f"after line 3: {lacks('yards', 'yards NUMBER')}",
+        ]
+        self.assertEqual(self.complaints("lane 0 32 0\nrow -2 -1 -\nsource 31\n"), expected)
+        expected = [
+            "line 4: price `x` is no whole number, expected -1 to 1000000 (-1 or - for no lane)",
+            "after line 5: too few rows (2), expected 3, one for each yard",
+        ]
+        self.assertEqual(self.complaints("method 2\nyards 3\nsource 2\nrow x 0 0\nrow 0 - 0\n"), expected)
+
+    def test_too_many_and_bad_lines(self):
+        lanes = "lane 0 1 0\n" * 127 + "lane 0 1 x\n" * 3
+        expected = [
+            "line 131: price `x` is no whole number, expected -1000000 to 1000000",
+            "line 132: one lane too many, expected at most 128 lanes",
+            "line 133: price `x` is no whole number, expected -1000000 to 1000000",
+        ]
+        self.assertEqual(self.complaints(self.HEADER_1 + lanes), expected)
+        expected = [
+            "line 5: wrong number of prices in the row (3), expected 2, one for each yard",
+            "line 6: one row too many, expected 2, one for each yard",
+        ]
+        self.assertEqual(self.complaints(self.HEADER_2 + "row 0 0\nrow 0 0 0\nrow 0\n"), expected)
+
+    def test_no_echo_of_an_unknown_word(self):
+        unknown = "line {}: unknown word `{}`, expected one of method, yards, source, lane, row".format
+        expected = [unknown(1, "Method"), unknown(2, "yard"), unknown(3, "src")]
+        self.assertEqual(self.complaints("Method 1\nyard 2\nsrc 0\nlane 0 1 0\n"), expected)
+        self.assertEqual(self.complaints(self.HEADER_2 + "rows 0 0\nrow 0 0\n"), [unknown(4, "rows")])
+        lacks = "after line 3: the text has no `method`, expected a line `method NUMBER`"
+        self.assertEqual(self.complaints("yards 2\nsource 0\nfoo\n"), [unknown(3, "foo"), lacks])
+
+    def test_no_echo_of_a_bad_header(self):
+        body = "source 5\nrow 0 0 0\nrow 0\nlane 7 8 0\n"
+        expected = [
+            "line 1: method 3 is out of range, expected 1 to 2",
+            "line 2: yards `x` is no whole number, expected 1 to 32",
+        ]
+        self.assertEqual(self.complaints("method 3\nyards x\n" + body), expected)
+        expected = [
+            "line 2: `method` was given on line 1, expected it once",
+            "line 4: `yards` was given on line 3, expected it once",
+        ]
+        self.assertEqual(self.complaints("method 1\nmethod 2\nyards 2\nyards 9\n" + body), expected)
+
+    def test_no_echo_of_the_other_method(self):
+        expected = [f"line {number}: `lane` in method 2, expected `row PRICE PRICE ..`" for number in (4, 5)]
+        self.assertEqual(self.complaints(self.HEADER_2 + "lane 0 1 x\nlane 9 9 9\n"), expected)
+        expected = [f"line {number}: `row` in method 1, expected `lane FROM-YARD TO-YARD PRICE`" for number in (4, 5, 6)]
+        self.assertEqual(self.complaints(self.HEADER_1 + "row x\nrow 0 0\nrow 0 0\n"), expected)
 
     def test_files_that_cannot_be_used(self):
         missing = self.folder / "missing"
-        status, _, errors = run(request, missing)
-        self.assertEqual((status, errors), (1, f"request.py: [Errno 2] No such file or directory: '{missing}'\n"))
+        expected = f"request.py: {missing}: cannot be read: No such file or directory\n"
+        self.assertEqual(run(request, missing), (1, "", expected))
+        expected = f"request.py: {self.folder}: cannot be read: Is a directory\n"
+        self.assertEqual(run(request, self.folder), (1, "", expected))
+        self.assertEqual(run(request, ""), (1, "", "request.py: : cannot be read: No such file or directory\n"))
         text = self.file("text", PRINTED_TEXT.encode())
-        status, _, errors = run(request, text, "-o", self.folder)
-        self.assertEqual((status, errors), (1, f"request.py: [Errno 21] Is a directory: '{self.folder}'\n"))
+        expected = f"request.py: {self.folder}: cannot be written: Is a directory\n"
+        self.assertEqual(run(request, text, "-o", self.folder), (1, "", expected))
 
 
 class RequestCommand(WithFolder):
     """The ways in and out of request.py."""
 
     def test_standard_input_to_standard_output(self):
-        command = [sys.executable, TOOLS / "request.py"]
-        done = subprocess.run(command, input=PRINTED_TEXT.encode(), capture_output=True, check=True)
-        self.assertEqual((done.stdout, done.stderr), (as_bytes(PRINTED_WORDS), b""))
+        for names in ([], ["-"]):
+            command = [sys.executable, TOOLS / "request.py", *names]
+            done = subprocess.run(command, input=PRINTED_TEXT.encode(), capture_output=True, check=True)
+            self.assertEqual((done.stdout, done.stderr), (as_bytes(PRINTED_WORDS), b""))
+
+    def test_bad_lines_of_standard_input(self):
+        expected = (
+            b"request.py: standard input: line 4: price `1.5` is no whole number, expected -1000000 to 1000000\n"
+            b"request.py: standard input: line 5: to-yard 2 is out of range, expected 0 to 1\n"
+        )
+        text = b"method 1\nyards 2\nsource 0\nlane 0 1 1.5\nlane 0 2 1\n"
+        for names in ([], ["-"]):
+            command = [sys.executable, TOOLS / "request.py", *names]
+            done = subprocess.run(command, input=text, capture_output=True, check=False)
+            self.assertEqual((done.returncode, done.stdout, done.stderr), (1, b"", expected))
+
+    def test_no_standard_input(self):
+        command = ["bash", "-c", '"$0" "$1" <&-', sys.executable, TOOLS / "request.py"]
+        done = subprocess.run(command, capture_output=True, check=False)
+        expected = b"request.py: standard input: cannot be read: Bad file descriptor\n"
+        self.assertEqual((done.returncode, done.stdout, done.stderr), (1, b"", expected))
 
     def test_hexadecimal_to_standard_output(self):
         command = [sys.executable, TOOLS / "request.py", self.file("text", PRINTED_TEXT.encode()), "--hex"]
@@ -367,8 +475,8 @@ class Listing(WithFolder):
         expected = ["COPY [1] <- [2] (b is 3, expected 0)", "OPEN [2] (d is 1, expected 0) (b is 3, expected 0)"]
         self.assertEqual(self.meanings(words), expected)
 
-    def test_empty_log(self):
-        self.assertEqual(self.listing([]), ["rounds 0"])
+    def test_header_alone(self):
+        self.assertEqual(self.listing(EDGE_1_LOG[:1]), [self.listing(EDGE_1_LOG)[0], "rounds 0"])
 
     def test_rounds_and_lengths_of_document_01(self):
         figures = [
@@ -400,7 +508,7 @@ class Comparison(WithFolder):
 
     def test_equal(self):
         self.assertEqual(self.comparison(EDGE_1_LOG, EDGE_1_LOG), (0, ["equal, 8 words"]))
-        self.assertEqual(self.comparison([], []), (0, ["equal, 0 words"]))
+        self.assertEqual(self.comparison(EDGE_1_LOG[:1], EDGE_1_LOG[:1]), (0, ["equal, 1 words"]))
 
     def test_header(self):
         expected = [
@@ -431,12 +539,8 @@ class Comparison(WithFolder):
     def test_length(self):
         expected = ["differ at place 7, only in length", "A  ends after 7 words", "B  0000000000000000  published 0"]
         self.assertEqual(self.comparison(EDGE_1_PLAN, EDGE_1_LOG), (1, expected))
-        expected = [
-            "differ at place 0, only in length",
-            "A  1000010000000000  header method=1 yards=1 lanes=0 source=0",
-            "B  ends after 0 words",
-        ]
-        self.assertEqual(self.comparison(EDGE_1_LOG, []), (1, expected))
+        expected = ["differ at place 1, only in length", "A  0000020000000000  SET [2] <- 0", "B  ends after 1 words"]
+        self.assertEqual(self.comparison(EDGE_1_LOG, EDGE_1_LOG[:1]), (1, expected))
 
     def test_plans(self):
         expected = ["differ at place 7, in an operation", "A  0000000000000000  SET [0] <- 0", "B  7000000000000000  OPEN [0]"]
@@ -451,21 +555,91 @@ class LogMessages(WithFolder):
 
     def test_broken_last_word(self):
         path = self.file("log", as_bytes(EDGE_1_LOG)[:-3])
-        message = f"{path}: 61 bytes, expected a multiple of 8 (hexadecimal text needs --hex)"
+        message = f"{path}: 61 bytes, expected a multiple of 8"
         self.assert_complaint(message, "list", path)
         self.assert_complaint(message, "compare", self.file("A", as_bytes(EDGE_1_LOG)), path)
+        self.assert_complaint(message, "list", "--bytes", path)
+
+    def test_hexadecimal_text_as_bytes(self):
+        path, good = self.folder / "log", self.file("A", as_bytes(EDGE_1_LOG))
+        message = f"{path}: looks like hexadecimal text: --hex reads it (or --bytes, if it is a log of bytes all the same)"
+        text = as_hex(EDGE_1_LOG)
+        self.assertEqual(len(text) % 8, 0)
+        one_line = text.replace(b"\n", b"")
+        windows = codecs.BOM_UTF8 + text.lower().replace(b"\n", b"\r\n")
+        for data in (text, text[:-1], text[:-24], text.lower(), one_line, windows, b" \n"):
+            path.write_bytes(data)
+            self.assert_complaint(message, "list", path)
+            self.assert_complaint(message, "compare", path, good)
+            self.assert_complaint(message, "compare", good, path)
+
+    def test_bytes_all_the_same(self):
+        words = [int.from_bytes(b"00020002", "big"), int.from_bytes(b"0000000A", "big")]
+        path = self.file("log", as_bytes(words))
+        expected = [
+            "      0  3030303230303032  header method=3 yards=12336 lanes=205571 source=12338",
+            "      1  3030303030303041  LESS [12336] <- [197379] < [12353]",
+            "rounds 6",
+        ]
+        self.assertEqual(run(log, "list", "--bytes", path), (0, "\n".join(expected) + "\n", ""))
+        other = self.file("B", as_bytes(words))
+        self.assertEqual(run(log, "compare", path, other, "--bytes"), (0, "equal, 2 words\n", ""))
+
+    def test_no_request_looks_like_text(self):
+        for method, n, m in product((1, 2), range(1, 33), range(129)):
+            self.assertFalse(log.looks_like_text(as_bytes([word(method, n, m, n - 1)])))
+
+    def test_one_form_at_most(self):
+        command = [sys.executable, TOOLS / "log.py", "list", "--hex", "--bytes", "log"]
+        done = subprocess.run(command, capture_output=True, check=False)
+        self.assertEqual(done.returncode, 2)
+        self.assertIn(b"not allowed with argument --hex", done.stderr)
 
     def test_unreadable_hexadecimal(self):
         path = self.file("log", b"1000010000000000\n0000020000000000 00000200000000\n")
         message = f"{path}: line 2: `00000200000000` is no word, expected 16 hexadecimal digits"
         self.assert_complaint(message, "list", "--hex", path)
+        good = self.file("A", as_hex(EDGE_1_LOG))
+        self.assert_complaint(message, "compare", "--hex", good, path)
         path = self.file("log", b"0x10000100000000\n")
         message = f"{path}: line 1: `0x10000100000000` is no word, expected 16 hexadecimal digits"
         self.assert_complaint(message, "list", "--hex", path)
 
-    def test_missing_file(self):
-        path = self.folder / "missing"
-        self.assert_complaint(f"{path}: cannot be read: No such file or directory", "list", path)
+    def test_bytes_as_hexadecimal(self):
+        path = self.file("log", as_bytes(EDGE_1_LOG[:2]))
+        quoted = "`" + "".join(f"\\x{value:02x}" for value in path.read_bytes()) + "`"
+        self.assert_complaint(f"{path}: line 1: {quoted} is no word, expected 16 hexadecimal digits", "list", "--hex", path)
+        path = self.file("log", as_hex(EDGE_1_LOG[:1]) + b"\xff" + b"0" * 40)
+        quoted = "`\\xff" + "0" * 19 + "..`"
+        self.assert_complaint(f"{path}: line 2: {quoted} is no word, expected 16 hexadecimal digits", "list", "--hex", path)
+
+    def test_no_words(self):
+        empty, also_empty = self.file("log", b""), self.file("B", b"")
+        message = "{}: empty, expected at least a header word".format
+        for options in ([], ["--hex"], ["--bytes"], ["--plan"]):
+            self.assert_complaint(message(empty), "list", empty, *options)
+            self.assert_complaint(message(empty), "compare", empty, also_empty, *options)
+        good = self.file("A", as_bytes(EDGE_1_LOG))
+        self.assert_complaint(message(empty), "compare", good, empty)
+        self.assert_complaint(message(empty), "compare", empty, good)
+        blank = self.file("blank", b"\n \n")
+        self.assert_complaint(message(blank), "list", "--hex", blank)
+
+    def test_one_file_twice(self):
+        path = self.file("log", as_bytes(EDGE_1_LOG))
+        message = "{}: A and B are both this file, expected two files".format
+        self.assert_complaint(message(path), "compare", path, path)
+        link = self.folder / "link"
+        link.symlink_to(path)
+        self.assert_complaint(message(link), "compare", path, link)
+
+    def test_files_that_cannot_be_read(self):
+        path, good = self.folder / "missing", self.file("A", as_bytes(EDGE_1_LOG))
+        message = f"{path}: cannot be read: No such file or directory"
+        self.assert_complaint(message, "list", path)
+        self.assert_complaint(message, "compare", good, path)
+        self.assert_complaint(message, "compare", path, path)
+        self.assert_complaint(f"{self.folder}: cannot be read: Is a directory", "compare", good, self.folder)
 
     def test_no_command_line(self):
         done = subprocess.run([sys.executable, TOOLS / "log.py"], capture_output=True, check=False)
