@@ -1,7 +1,9 @@
 /* The engine's three calls, for C: proved in Rattle (crates/exports), linked from libexports.a. docs/CALLING.md says it in full.
  *
- * What is asked of the caller, since C can't show it: no pointer is null, even where its length is 0; each buffer has at least
- * as many elements as its length says; and no two buffers overlap. Nothing is asked of what the buffers hold. */
+ * What is asked of the caller, since C can't show it: no pointer is null, even where its length is 0; each is aligned for its
+ * element type; each buffer has at least as many elements as its length says; no two buffers overlap; and until the call
+ * returns nobody else writes any of them (the log and the cells are read back during a run). Nothing is asked of what the
+ * buffers hold. */
 #ifndef VUKSTAJA_H
 #define VUKSTAJA_H
 

@@ -1,7 +1,6 @@
 // Requests through the desk's program: every refusal it can print, and runs of both methods, each under its name.
-// Rests on printing.
+// Rests on console.
 use libc::STDOUT_FILENO;
-use printing::Part;
 ghost use Prim.Native.Nat.{_*_, _≤_};
 ghost use lib.ListN.{length};
 
@@ -17,7 +16,9 @@ fn send(name: &[u8], words: &[u64], size: usize)
     }
     io::write_all(STDOUT_FILENO, name);
     io::write_all(STDOUT_FILENO, b"\n");
-    printing::serve(STDOUT_FILENO, &bytes[..size], Part::Answer);
+    let mut text = [0u8; 2206];
+    let length = console::desk_text(&bytes[..size], &mut text);
+    io::write_all(STDOUT_FILENO, &text[..length]);
 }
 
 fn refused_headers() {

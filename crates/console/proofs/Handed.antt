@@ -1,62 +1,79 @@
--- How many words bytes count as, and that a broken or too long request meets 5, after 1 to 4. Rests on the laws of requests.
+-- How many words bytes count as, and what stands in the buffer of words: what the code's tests and lengths need.
+-- Rests on the laws of blocks and text's Arrays.
 use mathlib.Core.Path.{_≡_, refl, sym, _∙_}
+use mathlib.Core.Logic.{⊎-elim}
 use mathlib.Core.Bool.{Bool, true, false, cond}
 use mathlib.Core.List.{List, [], _∷_}
-use mathlib.Core.Option.{Option, none, some}
-use Prim.Native.Nat.{ℕ, _*_, _/_, _%_, _≤_}
+use Prim.Native.Nat.{ℕ, zero, suc, _/_, _%_, _<_, _≤_}
+use native.Mathlib.Nat.{eq-zero-or-pos}
 use native.Mathlib.Omega.{arith}
 use lib.Dec.{ltb, eqb}
-use lib.ListN.{length, drop, length-append, length-drop}
-use borrow.Author.Tests.{ne-eqb}
-use Rattle.plans.specs.declared.Header.{Header}
-use Rattle.plans.specs.Plan.{Accepted, headerOf}
-use Rattle.plans.specs.Blocks.{flat}
-use Rattle.plans.proofs.Blocks.{ones-length}
-use Rattle.plans.proofs.Bounds.{square-le}
-use Rattle.plans.proofs.Headers.{by-method}
-use Rattle.planner.specs.declared.Refusal.{Refusal}
-use Rattle.planner.specs.declared.Refusal.the-variants.{Words}
-use Rattle.planner.specs.Refusal.{headerRefusal}
-use Rattle.planner.specs.Written.{orElse}
-use Rattle.planner.proofs.Headers.{accepted}
-use Rattle.requests.specs.Refusal.{wordsOf as wordCount, sizesRefusal, requestRefusal}
-use Rattle.console.specs.Bytes.{wordAt, handedOver, wordsOf}
+use lib.ListN.{length, getD, drop, take, replicate, length-append, length-drop, getD-replicate}
+use lib.Seq.{getD-take}
+use borrow.Author.Tests.{lt-ltb, le-ltb, eq-eqb, ne-eqb}
+use Rattle.text.proofs.Arrays.{counted}
+use Rattle.plans.proofs.Blocks.{ones-length, ones-at}
+use Rattle.planner.specs.Written.{overwritten}
+use Rattle.console.specs.Bytes.{wordAt, tooMany, wholeCount, wholeWords, handedOver, requestOf}
 
-by-tests : (a b : Bool) (n : ℕ) → n ≤ 1026 → cond a 0 (cond b n 1026) ≤ 1026
-by-tests true b n l = omega arith
-by-tests false true n l = l
-by-tests false false n l = omega arith
+-- ---- how many, by the tests
 
-pub handed-most : (size : ℕ) → size ≤ 8208 → handedOver size ≤ 1026
+pub none-handed : (size : ℕ) → size < 8 → 0 ≡ handedOver size
 unfolding handedOver
-handed-most size l = by-tests (ltb size 8) (eqb (size % 8) 0) (size / 8) (omega arith)
+none-handed size h = rw (lt-ltb size 8 h)
 
-pub words-long : (bytes buffer : List ℕ) → length bytes ≤ 8 * length buffer → length (wordsOf bytes buffer) ≡ length buffer
-unfolding wordsOf
-words-long bytes buffer l =
-    let n = length bytes / 8 in
-    let ws = flat n (λ k. wordAt bytes k ∷ []) in
-    length-append ws (drop (length ws) buffer)
-    ∙ omega (arith, ones-length (wordAt bytes) n, length-drop (length ws) buffer)
+pub whole-handed : (size : ℕ) → 8 ≤ size → size % 8 ≡ 0 → wholeCount size ≡ handedOver size
+unfolding handedOver
+whole-handed size h e = rw (le-ltb size 8 h, eq-eqb (size % 8) 0 e)
 
--- ---- too many words
+pub broken-handed : (size : ℕ) → 8 ≤ size → (size % 8 ≡ 0 → ⊥) → tooMany ≡ handedOver size
+unfolding handedOver
+broken-handed size h n = rw (le-ltb size 8 h, ne-eqb (size % 8) 0 n)
 
-words-most : (h : Header) → Accepted h → wordCount h ≤ 1024
-unfolding wordCount
-words-most =
-    by-method (λ h. wordCount h ≤ 1024) (λ n m source a. omega (arith, a .edges-few)) (λ n source a. square-le n (a .vertices-few))
+by-tests : (a b : Bool) (size : ℕ) → cond a 0 (cond b (wholeCount size) tooMany) ≤ tooMany
+by-tests true b size = omega arith
+by-tests false true size = omega arith
+by-tests false false size = omega arith
 
-by-header : (h : Header) (words : List ℕ) (cells log distances parents : ℕ) (o later : Option Refusal) → headerRefusal h ≡ o → length words ≡ 1025
-    → orElse o (orElse (sizesRefusal h (length words) cells log distances parents) later) ≡ orElse o (some Words)
-unfolding sizesRefusal
-by-header h words cells log distances parents none later e l =
-    let m = words-most h (accepted h (sym e)) in
-    rw (ne-eqb (length words) (wordCount h) (λ q. omega arith))
-by-header h words cells log distances parents (some r) later e l = refl
+pub handed-most : (size : ℕ) → handedOver size ≤ tooMany
+unfolding handedOver
+handed-most size = by-tests (ltb size 8) (eqb (size % 8) 0) size
 
--- A request of 1,026 words meets 1 to 4, or else 5, whatever is lent.
-pub too-many : (w : ℕ) (ws : List ℕ) (cells log distances parents : ℕ) → length ws ≡ 1025
-    → requestRefusal (w ∷ ws) cells log distances parents ≡ orElse (headerRefusal (headerOf w)) (some Words)
-unfolding requestRefusal
-too-many w ws cells log distances parents l =
-    by-header (headerOf w) ws cells log distances parents (headerRefusal (headerOf w)) _ refl l
+some-by : (a b : Bool) (size : ℕ) → 8 ≤ size → a ≡ false → 0 < cond a 0 (cond b (wholeCount size) tooMany)
+some-by true b size h e = let z : _≡_ {A = ℕ} 0 1 = cc in let no : ⊥ = omega arith in absurd no
+some-by false true size h e = omega arith
+some-by false false size h e = omega arith
+
+pub some-handed : (size : ℕ) → 8 ≤ size → 0 < handedOver size
+unfolding handedOver
+some-handed size h = some-by (ltb size 8) (eqb (size % 8) 0) size h (le-ltb size 8 h)
+
+-- ---- the words
+
+pub whole-length : (bytes : List ℕ) → length (wholeWords bytes) ≡ wholeCount (length bytes)
+unfolding wholeWords
+whole-length bytes = ones-length (wordAt bytes) (wholeCount (length bytes))
+
+pub whole-at : (bytes : List ℕ) (k : ℕ) → k < wholeCount (length bytes) → getD (wholeWords bytes) k 0 ≡ wordAt bytes k
+unfolding wholeWords
+whole-at bytes k h = ones-at (wordAt bytes) (wholeCount (length bytes)) 0 k h
+
+-- Over any n: a list of 1,026 zeros is not to be written out.
+pub padded-length : (n : ℕ) (ws : List ℕ) → length ws ≤ n → length (overwritten ws (replicate n 0)) ≡ n
+padded-length n ws h =
+    length-append ws (drop (length ws) (replicate n 0))
+    ∙ omega (arith, length-drop {A = ℕ} (length ws) (replicate n 0), counted {X = ℕ} n 0)
+
+-- The first word is the first of those handed over; where there are none, it is 0.
+first-of : (n k : ℕ) (ws : List ℕ) → 0 < n → (k ≡ 0 → length ws ≡ 0) → getD (overwritten ws (replicate n 0)) 0 0 ≡ getD (take k (overwritten ws (replicate n 0))) 0 0
+first-of n zero [] h e = getD-replicate n 0 0 0 h
+first-of n zero (w ∷ ws) h e = let z : length (w ∷ ws) ≡ 0 = e refl in let no : ⊥ = omega arith in absurd no
+first-of n (suc k) ws h e = sym (getD-take (suc k) (overwritten ws (replicate n 0)) 0 0 (omega arith))
+
+pub first-word : (bytes : List ℕ) → getD (overwritten (wholeWords bytes) (replicate tooMany 0)) 0 0 ≡ getD (requestOf bytes) 0 0
+unfolding requestOf
+first-word bytes =
+    first-of tooMany (handedOver (length bytes)) (wholeWords bytes) (omega arith)
+    (λ (z : handedOver (length bytes) ≡ 0). ⊎-elim (λ (h : length bytes / 8 ≡ 0). omega (arith, whole-length bytes))
+    (λ (h : 0 < length bytes / 8). let no : ⊥ = omega (arith, some-handed (length bytes) (omega arith)) in absurd no)
+    (eq-zero-or-pos (length bytes / 8)))

@@ -1,3 +1,6 @@
 pub mod Joining
 pub mod Handed
+pub mod Padded
+pub mod Requests
 pub mod Whole
+pub mod Example

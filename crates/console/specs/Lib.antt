@@ -1,2 +1,2 @@
 pub mod Bytes
-pub mod Lines
+pub mod Desk

@@ -1,12 +1,14 @@
 // The desk's program: a request from standard input, its answer to standard output.
-// Rests on printing.
+// Rests on console.
 use libc::STDIN_FILENO;
 use libc::STDOUT_FILENO;
-use printing::Part;
 
 fn main() {
-    // Room for one word more than any request has: a longer input fills it, and is too long as it stands.
+    // One word more than the longest request: nothing beyond it is read, and the text of a longer input is that of its first 8,208 bytes
+    // (console's `cut`).
     let mut bytes = [0u8; 8208];
     let size = io::read_full(STDIN_FILENO, &mut bytes);
-    printing::serve(STDOUT_FILENO, &bytes[..size], Part::Answer);
+    let mut text = [0u8; 2206];
+    let length = console::desk_text(&bytes[..size], &mut text);
+    io::write_all(STDOUT_FILENO, &text[..length]);
 }

@@ -8,16 +8,17 @@ use native.Mathlib.Omega.{arith}
 use lib.IntN.{ℤ}
 use lib.ListN.{length, drop}
 use Rattle.machine.specs.Effect.{cellAt}
-use Rattle.machine.specs.Log.{cellsAfter, logOf, total, roundsOf}
+use Rattle.machine.specs.Log.{cellsAfter, logOf, sumOf, roundsOf}
 use Rattle.machine.proofs.Carried.{length-after}
 use Rattle.machine.proofs.Replayed.{charge-log}
 use Rattle.plans.specs.declared.Header.{Header}
 use Rattle.plans.specs.Plan.{Accepted, planOf, cellsOf}
 use Rattle.planner.specs.declared.Refusal.{Refusal}
 use Rattle.planner.specs.Written.{overwritten}
-use Rattle.requests.specs.Refusal.{wordsOf}
-use Rattle.requests.specs.Within.{headerIn, wordsIn, Within}
+use Rattle.requests.specs.Refusal.{wordCountOf}
+use Rattle.requests.specs.WithinLimits.{headerIn, wordsIn, WithinLimits}
 use Rattle.requests.specs.Intake.{copied, startingCells, distanceCell, parentCell}
+use Rattle.requests.proofs.WithinLimits.{accepted-in, counted-in, cells-in, log-in}
 use Rattle.requests.proofs.Laid.{start-long}
 use Rattle.engine.specs.declared.Answer.the-variants.{Ran, NegativeCycle, Refused}
 use Rattle.engine.specs.Run.{Lent, refusalOf, verdictOf, outcome, Met}
@@ -37,24 +38,24 @@ pub record Passed (request : List ℕ) (lent : Lent) (h : Header) : Type 0 where
   pub is : h ≡ headerIn request
 
 pub limits : (request : List ℕ) (lent : Lent) → none ≡ refusalOf request lent
-    → Within request (length (lent .cells)) (length (lent .log)) (length (lent .distances)) (length (lent .parents))
+    → WithinLimits request (length (lent .cells)) (length (lent .log)) (length (lent .distances)) (length (lent .parents))
 limits request lent fine = inside request lent (sym fine)
 
 module _ {request : List ℕ} {lent : Lent} {h : Header} (p : Passed request lent h) where
-  within : Within request (length (lent .cells)) (length (lent .log)) (length (lent .distances)) (length (lent .parents))
+  within : WithinLimits request (length (lent .cells)) (length (lent .log)) (length (lent .distances)) (length (lent .parents))
   within = limits request lent (p .fine)
 
   pub allowed : Accepted h
-  allowed = rw (p .is) (within .accepted)
+  allowed = rw (p .is) (accepted-in _ _ _ _ _ within)
 
-  pub counted : length (drop 1 request) ≡ wordsOf h
-  counted = rw (p .is) (within .counted)
+  pub counted : length (drop 1 request) ≡ wordCountOf h
+  counted = rw (p .is) (counted-in _ _ _ _ _ within)
 
   pub cells-enough : cellsOf h ≤ length (lent .cells)
-  cells-enough = rw (p .is) (within .cells-enough)
+  cells-enough = rw (p .is) (cells-in _ _ _ _ _ within)
 
   pub results-enough : (h .vertices ≤ length (lent .distances)) × (h .vertices ≤ length (lent .parents))
-  results-enough = rw (p .is) (within .distances-enough, within .parents-enough)
+  results-enough = rw (p .is) (within .limits .distances-enough, within .limits .parents-enough)
 
   -- `first` are the cells that intake leaves.
   module _ {first : List ℤ} (laid : first ≡ startingCells h (wordsIn request) (lent .cells)) where
@@ -63,12 +64,12 @@ module _ {request : List ℕ} {lent : Lent} {h : Header} (p : Passed request len
 
     pub can-carry : Accepted h × (cellsOf h ≤ length first) × (length (logOf (planOf h) first) ≤ length (lent .log))
     can-carry =
-        let l = rw (sym (p .is)) at (within .log-enough) in
+        let l = rw (sym (p .is)) at (log-in _ _ _ _ _ within) in
         (allowed, omega (arith, first-long, cells-enough), omega (arith, log-length h allowed first, l))
 
     -- What `carry` says of its tally, the cells and the log.
     module _ {rounds size : ℕ} {left : List ℤ} {log : List ℕ}
-        (done : (rounds ≡ total roundsOf (drop 1 (planOf h)))
+        (done : (rounds ≡ sumOf roundsOf (drop 1 (planOf h)))
         × (size ≡ length (logOf (planOf h) first))
         × (left ≡ cellsAfter (drop 1 (planOf h)) first)
         × (log ≡ overwritten (logOf (planOf h) first) (lent .log))) where

@@ -11,12 +11,12 @@ use Rattle.machine.specs.Effect.{cellAt}
 use Rattle.machine.proofs.Carried.{length-after}
 use Rattle.plans.specs.Plan.{cellsOf}
 use Rattle.requests.specs.Refusal.{logLengthOf}
-use Rattle.requests.proofs.Laid.{start-rest}
-use Rattle.requests.specs.Within.{headerIn, wordsIn}
+use Rattle.requests.specs.WithinLimits.{headerIn}
 use Rattle.requests.proofs.Copied.{copied-beyond}
 use Rattle.engine.specs.Run.{Lent, startOf, logOfRun, cellsLeft}
 use Rattle.engine.specs.Demands.{RanOn, Beyond}
-use Rattle.engine.proofs.Taken.{long}
+use Rattle.engine.proofs.Intake.{lent-cells, long}
+use Rattle.engine.proofs.Taken.{enough}
 use Rattle.engine.proofs.Ran.{inside, leaves, by-verdict, cells-are, log-is, log-long}
 
 module _ (request : List ℕ) (lent : Lent) (ran : RanOn request lent) where
@@ -26,12 +26,12 @@ module _ (request : List ℕ) (lent : Lent) (ran : RanOn request lent) where
   other-cell : (k : ℕ) → cellAt (cellsLeft request lent) (needed + k) ≡ cellAt (lent .cells) (needed + k)
   other-cell k =
       leaves request lent ran .rest (needed + k) (omega arith)
-      ∙ start-rest (headerIn request) (wordsIn request) (lent .cells) (needed + k) (omega arith)
+      ∙ lent-cells request lent (needed + k) (omega arith)
 
   same-length : length (drop needed (cellsLeft request lent)) ≡ length (drop needed (lent .cells))
   same-length =
       length-drop needed (cellsLeft request lent)
-      ∙ ap (λ (k : ℕ). k - needed) (length-after _ (startOf request lent) ∙ long request lent (inside request lent ran))
+      ∙ ap (λ (k : ℕ). k - needed) (length-after _ (startOf request lent) ∙ long request lent (enough request lent (inside request lent ran)))
       ∙ sym (length-drop needed (lent .cells))
 
   other-cells : drop needed (cellsLeft request lent) ≡ drop needed (lent .cells)

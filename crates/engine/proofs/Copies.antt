@@ -8,7 +8,7 @@ use lib.IntN.{pos}
 use lib.ListN.{getD}
 use Rattle.machine.specs.Effect.{cellAt}
 use Rattle.requests.specs.Intake.{distanceCell, parentCell}
-use Rattle.requests.specs.Within.{headerIn}
+use Rattle.requests.specs.WithinLimits.{headerIn}
 use Rattle.requests.proofs.Copied.{copied-at}
 use Rattle.engine.specs.Run.{Lent, cellsLeft, outcome}
 use Rattle.engine.specs.Demands.{RanOn, verdictTold}

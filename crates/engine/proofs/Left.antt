@@ -16,23 +16,28 @@ use Rattle.plans.specs.Limits.{far, mostWeight}
 use Rattle.plans.specs.Plan.{Accepted, cellsOf, instructionsOf, planOf}
 use Rattle.plans.proofs.Headers.{header, by-method}
 use Rattle.requests.specs.Intake.{distanceCell, parentCell}
-use Rattle.graph.specs.Walk.{NegativeCycle, Below}
+use Rattle.graph.specs.Walk.{Edge, NegativeCycle, Below}
 use Rattle.graph.specs.Shortest.{Shortest}
+use Rattle.graph.specs.Dijkstra.{tableNetwork, fromVertex}
 use Rattle.graph.proofs.Int.{arithℤ}
 use Rattle.graph.proofs.Dijkstra.{no-negative-cycle}
+use Rattle.graph.proofs.SameEdges.{cycle-over, shortest-over}
 use Rattle.methods.specs.Bank.{Exact}
 use Rattle.methods.specs.Method1 as Method1
 use Rattle.methods.specs.Method2 as Method2
 use Rattle.methods.proofs.Rooms.{today}
 use Rattle.methods.proofs.Headers.{header1, header2}
 use Rattle.engine.specs.Run.{verdictOf}
-use Rattle.engine.specs.Network.{edgeOf, tableOf, networkOf, namingOf}
-use Rattle.engine.proofs.Logs.{published, flagOf}
+use Rattle.engine.specs.Demands.{published}
+use Rattle.engine.specs.Network.{edgeOf, Entered, networkOf, namingOf}
+use Rattle.engine.proofs.Logs.{flagOf}
+use Rattle.engine.proofs.Table.{tableOf}
 
 -- What intake supplies to the header's method.
 pub record Given (h : Header) (ws : List ℕ) (start : List ℤ) : Type 0 where
   pub one : h .method ≡ 1 → Method1.Laid mostWeight (edgeOf ws) (h .vertices) (h .edges) (h .source) start
   pub two : h .method ≡ 2 → Method2.Laid (natAbs far) mostWeight (tableOf (h .vertices) ws) (h .vertices) (h .source) start
+  pub same : h .method ≡ 2 → (e : Edge) → tableNetwork (natAbs far) (h .vertices) (tableOf (h .vertices) ws) e ↔ Entered (h .vertices) ws e
 
 pub record Left (h : Header) (ws : List ℕ) (start left : List ℤ) : Type 0 where
   pub cycle : (verdictOf h left ≡ 1) ↔ NegativeCycle (networkOf h ws) (h .source)
@@ -101,12 +106,14 @@ left =
     })
     (λ n source a ws start g.
     let o = header2 (header 2 n 0 source) a start mostWeight today (tableOf n ws) refl (g .two refl) in
-    let no-cycle = no-negative-cycle (natAbs far) n (tableOf n ws) source in
+    let same = g .same refl in
+    let no-cycle : ¬ NegativeCycle (Entered n ws) source =
+    λ z. no-negative-cycle (natAbs far) n (tableOf n ws) source (cycle-over _ _ (λ e. same e .1) source z) in
     record {
       cycle = (λ e. absurd (omega arith), λ c. absurd (no-cycle c));
       no-cycle = (λ e. no-cycle, λ f. refl);
-      below = λ e r. (r .0, r .1);
-      shortest = λ e. o .shortest;
+      below = λ e r. (r .from-there, r .to-there);
+      shortest = λ e. shortest-over _ _ same fromVertex far n source _ _ (o .shortest);
       rest = o .rest;
       exact = o .exact;
       opened = refl;

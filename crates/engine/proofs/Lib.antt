@@ -1,4 +1,6 @@
+pub mod Intake
 pub mod Logs
+pub mod Table
 pub mod Left
 pub mod Taken
 pub mod Ran

@@ -13,7 +13,7 @@ use Rattle.fields.specs.Fields.{bitsOf}
 use Rattle.machine.specs.Instruction.{Instruction, OPEN, opOf, All}
 use Rattle.machine.specs.Effect.{cellAt, perform}
 use Rattle.machine.specs.Word.{Fits, opField, aField, encode}
-use Rattle.machine.specs.Log.{carry, carried, cellsAfter, logged, logFrom, logOf, total}
+use Rattle.machine.specs.Log.{carry, carried, cellsAfter, logged, logFrom, logOf, sumOf}
 use Rattle.machine.proofs.Encoded.{fields-packed, decode-encode, op-encode}
 use Rattle.machine.proofs.Appended.{logged-open, logged-other}
 use Rattle.plans.specs.declared.Header.{Header}
@@ -22,12 +22,13 @@ use Rattle.plans.specs.Blocks.{flat}
 use Rattle.plans.specs.Method1 as Method1
 use Rattle.plans.specs.Method2 as Method2
 use Rattle.plans.specs.Plan.{headerWord, Accepted, instructionsOf, planOf}
-use Rattle.plans.proofs.Blocks.{total-append, total-map}
+use Rattle.plans.proofs.Blocks.{sum-append, sum-map}
 use Rattle.plans.proofs.Weights.{weigh, plan1-weight, plan2-weight}
 use Rattle.plans.proofs.Headers.{header, by-method}
 use Rattle.plans.proofs.Addresses.{fits-plan}
 use Rattle.plans.proofs.Figures.{length-plan}
 use Rattle.requests.specs.Refusal.{logLengthOf}
+use Rattle.engine.specs.Demands.{published}
 
 -- ---- how many words open a cell
 
@@ -39,11 +40,11 @@ abbrev opens : (word : ℕ) → ℕ
 opens w = opening (opField w)
 
 abbrev opened : List ℕ → ℕ
-opened = total opens
+opened = sumOf opens
 
 -- Words of which none opens a cell are their own log.
 quiet : (ws : List ℕ) (cells : List ℤ) → opened ws ≡ 0 → logFrom ws cells ≡ ws
-unfolding logFrom total
+unfolding logFrom sumOf
 quiet [] cells e = refl
 quiet (w ∷ ws) cells e =
     ap₂ _++_ (logged-other w cells (λ q. omega (arith, ap opening q)))
@@ -80,11 +81,11 @@ module _ (ws : List ℕ) (a : ℕ) (fits : Fits (OPEN a)) (cells : List ℤ) whe
   log-last : opened (ws ++ last ∷ []) ≡ 1
       → logFrom (ws ++ last ∷ []) cells
       ≡ (ws ++ last ∷ []) ++ bitsOf 64 (cellAt (cellsAfter (ws ++ last ∷ []) cells) a) ∷ []
-  unfolding logFrom total
+  unfolding logFrom sumOf
   log-last e =
       let op : opField last ≡ 7 = op-encode (OPEN a) fits in
       let at : aField last ≡ a = fields-packed 7 0 a 0 (omega arith) (omega arith) (omega arith) (omega arith) .a-is in
-      let none : opened ws ≡ 0 = omega (arith, total-append opens ws (last ∷ []), ap opening op) in
+      let none : opened ws ≡ 0 = omega (arith, sum-append opens ws (last ∷ []), ap opening op) in
       log-append ws (last ∷ []) cells
       ∙ ap₂ _++_ (quiet ws cells none) (ap (λ l. l ++ []) (logged-open last before op))
       ∙ rw (left-before, at) (simp append-assoc)
@@ -94,7 +95,7 @@ module _ (ws : List ℕ) (a : ℕ) (fits : Fits (OPEN a)) (cells : List ℤ) whe
 -- The words of instructions open as many cells as these do.
 opened-words : (is : List (Instruction ℕ)) (k : ℕ) → All Fits is → weigh opening is ≡ k → opened (map encode is) ≡ k
 opened-words is k fits e =
-    total-map Fits (λ i. opening (opOf i)) encode opens (λ i f. ap opening (op-encode i f)) is fits ∙ e
+    sum-map Fits (λ i. opening (opOf i)) encode opens (λ i f. ap opening (op-encode i f)) is fits ∙ e
 
 module _ (n m source : ℕ) where
   abbrev plan1 : List (Instruction ℕ)
@@ -128,10 +129,6 @@ log2 n source cells fits =
     quiet _ cells (opened-words _ 0 fits (plan2-weight (Method2.places n) far n opening source ∙ omega arith))
 
 -- ---- the plan of a header
-
--- The words that a method publishes: one in method 1.
-abbrev pub published : Header → (word : ℕ) → List ℕ
-published h w = byMethod (h .method) [] ((w ∷ []) ∷ [] ∷ [])
 
 -- The cell that method 1 opens.
 abbrev pub flagOf : Header → (left : List ℤ) → ℤ

@@ -14,12 +14,12 @@ use Rattle.plans.specs.Plan.{Accepted, planOf}
 use Rattle.plans.proofs.Headers.{header, by-method}
 use Rattle.planner.specs.Written.{overwritten}
 use Rattle.requests.specs.Refusal.{logLengthOf}
-use Rattle.requests.specs.Within.{headerIn, wordsIn, Within}
+use Rattle.requests.specs.WithinLimits.{headerIn, wordsIn, WithinLimits}
 use Rattle.graph.proofs.Test.{by-test}
-use Rattle.requests.proofs.Within.{within}
+use Rattle.requests.proofs.WithinLimits.{accepted-in, within}
 use Rattle.engine.specs.Run.{Lent, Outcome, startOf, logOfRun, cellsLeft, verdictOf, verdictOfRun, ranBy, outcome}
-use Rattle.engine.specs.Demands.{RanOn, roundsTold, lengthTold, verdictTold, logTold}
-use Rattle.engine.proofs.Logs.{published, flagOf, log-plan, log-length}
+use Rattle.engine.specs.Demands.{RanOn, roundsTold, lengthTold, verdictTold, logTold, published}
+use Rattle.engine.proofs.Logs.{flagOf, log-plan, log-length}
 use Rattle.engine.proofs.Left.{Left}
 use Rattle.engine.proofs.Taken.{ends}
 
@@ -31,11 +31,11 @@ verdict-of =
     (λ n source a left. inl refl)
 
 module _ (request : List ℕ) (lent : Lent) (ran : RanOn request lent) where
-  pub inside : Within request (length (lent .cells)) (length (lent .log)) (length (lent .distances)) (length (lent .parents))
+  pub inside : WithinLimits request (length (lent .cells)) (length (lent .log)) (length (lent .distances)) (length (lent .parents))
   inside = within request _ _ _ _ .0 ran
 
   pub allowed : Accepted (headerIn request)
-  allowed = inside .accepted
+  allowed = accepted-in _ _ _ _ _ inside
 
   pub leaves : Left (headerIn request) (wordsIn request) (startOf request lent) (cellsLeft request lent)
   leaves = ends request lent inside
@@ -87,3 +87,9 @@ module _ (request : List ℕ) (lent : Lent) (ran : RanOn request lent) where
 
   pub log-long : length (logOfRun request lent) ≡ logLengthOf (headerIn request)
   log-long = log-length (headerIn request) allowed (startOf request lent)
+
+  pub length-figure : lengthTold request lent ≡ logLengthOf (headerIn request)
+  length-figure = length-is ∙ log-long
+
+  pub length-whole : length (logTold request lent) ≡ lengthTold request lent
+  length-whole = ap length log-told ∙ sym length-is

@@ -2,24 +2,26 @@
 -- Rests on everything below.
 use mathlib.Core.Path.{_≡_, refl, sym, _∙_}
 use mathlib.Core.Logic.{_⊎_, inl, inr}
-use mathlib.Core.List.{List}
+use mathlib.Core.List.{List, [], _∷_}
+use mathlib.Core.Option.{none}
 use Prim.Native.Nat.{ℕ}
 use native.Mathlib.Omega.{arith}
 use lib.IntN.{ℤ}
-use lib.ListN.{getD}
+use lib.ListN.{length, getD}
 use Rattle.plans.specs.Limits.{far}
-use Rattle.runner.proofs.Foreign.{refused-plan, replayed-plan, charge-plan, words-plan}
-use Rattle.requests.proofs.Within.{within}
-use Rattle.requests.proofs.Laid.{start-needed, start-rest}
+use Rattle.runner.proofs.PlanWithin.{within-plan}
+use Rattle.runner.proofs.Foreign.{refused-plan, told-plan, length-told, log-beyond, cells-long, cells-spared, replayed-plan, charge-plan, words-plan}
+use Rattle.requests.proofs.WithinLimits.{within}
 use Rattle.graph.proofs.Parents.{carried}
-use Rattle.requests.specs.Within.{headerIn, wordsIn}
+use Rattle.requests.specs.WithinLimits.{headerIn, wordsIn}
 use Rattle.engine.specs.Run.{Lent, outcome}
 use Rattle.engine.specs.Network.{networkOf, namingOf}
 use Rattle.engine.specs.Demands.{Demand1, Demand2, Demand3a, Demand3, DemandPlan}
-use Rattle.engine.proofs.Ran.{allowed, leaves, by-verdict, cells-are, rounds-are, verdict-is, log-told}
+use Rattle.engine.proofs.Intake.{laid-cells, lent-cells}
+use Rattle.engine.proofs.Ran.{allowed, leaves, by-verdict, cells-are, rounds-are, verdict-is, log-told, log-published, length-figure, length-whole}
 use Rattle.engine.proofs.Copies.{distance-copied, parent-copied}
 use Rattle.engine.proofs.Beyond.{beyond}
-use Rattle.engine.proofs.Told.{carried-out, planned, same-logs}
+use Rattle.engine.proofs.Told.{carried-out, planned, own-header, rounds-figure, same-logs}
 
 -- Demand 1: runs and refusals.
 pub demand1 : (request : List ℕ) (lent : Lent) → Demand1 request lent
@@ -31,9 +33,9 @@ demand1 request lent =
       tells = λ ran.
           by-verdict request lent ran
           (λ o.
-          ((o .answer .number ≡ 0) × (getD (o .answer .values) 2 0 ≡ 0))
-          ⊎ ((o .answer .number ≡ 12) × (getD (o .answer .values) 2 0 ≡ 1)))
-          (λ e. inl (refl, refl)) (λ e. inr (refl, refl));
+          (o .answer ≡ record { number = 0; place = none; values = getD (o .answer .values) 0 0 ∷ getD (o .answer .values) 1 0 ∷ 0 ∷ [] })
+          ⊎ (o .answer ≡ record { number = 12; place = none; values = getD (o .answer .values) 0 0 ∷ getD (o .answer .values) 1 0 ∷ 1 ∷ [] }))
+          (λ e. inl refl) (λ e. inr refl);
       no-results = λ ran.
           by-verdict request lent ran
           (λ o. getD (o .answer .values) 2 0 ≡ 1 → (o .distances ≡ lent .distances) × (o .parents ≡ lent .parents))
@@ -61,14 +63,17 @@ demand3a = same-logs
 
 pub demand3 : (request : List ℕ) (lent : Lent) → Demand3 request lent
 demand3 request lent =
-    let h = headerIn request in
-    let ws = wordsIn request in
     record {
       carried-out = carried-out request lent;
       charged = λ ran. rw (log-told request lent ran) (rounds-are request lent ran);
       planned = planned request lent;
-      laid-cells = λ ran. start-needed h ws (lent .cells);
-      lent-cells = λ ran. start-rest h ws (lent .cells);
+      verdict-last = log-published request lent;
+      own-header = own-header request lent;
+      length-figure = length-figure request lent;
+      length-whole = length-whole request lent;
+      rounds-figure = rounds-figure request lent;
+      laid-cells = λ ran. laid-cells request lent;
+      lent-cells = λ ran. lent-cells request lent;
       copied-distances = λ ran t v l. rw (cells-are request lent ran) (distance-copied request lent ran t v l);
       copied-parents = λ ran t v l. rw (cells-are request lent ran) (parent-copied request lent ran t v l);
       exact = λ ran. leaves request lent ran .exact;
@@ -78,7 +83,13 @@ demand3 request lent =
 pub demandPlan : (plan : List ℕ) (cells : List ℤ) (log : List ℕ) → DemandPlan plan cells log
 demandPlan plan cells log =
     record {
+      runs = within-plan plan (length cells) (length log);
       refuses = refused-plan plan cells log;
+      tells = told-plan plan cells log;
+      length-figure = length-told plan cells log;
+      log-beyond = log-beyond plan cells log;
+      cells-long = cells-long plan cells log;
+      cells-spared = cells-spared plan cells log;
       carried-out = replayed-plan plan cells log;
       charged = charge-plan plan cells log;
       planned = words-plan plan cells log;

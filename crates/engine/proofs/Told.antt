@@ -4,22 +4,23 @@ use mathlib.Core.Path.{_≡_, refl, sym, ap, _∙_}
 use mathlib.Core.Logic.{_↔_}
 use mathlib.Core.List.{List, [], _∷_, _++_, append-cancel-left}
 use mathlib.Core.Option.{some}
-use Prim.Native.Nat.{ℕ, _≤_}
+use Prim.Native.Nat.{ℕ, _^_, _<_, _≤_}
 use native.Mathlib.Omega.{arith}
 use lib.ListN.{length, getD}
-use Rattle.machine.specs.Log.{replay, wordsOf}
-use Rattle.machine.proofs.Replayed.{replay-log, words-log}
+use Rattle.machine.specs.Log.{replay, withoutPublished}
+use Rattle.machine.proofs.Replayed.{replay-log, words-log, charge-log}
 use Rattle.plans.specs.declared.Header.{Header}
-use Rattle.plans.specs.Plan.{Accepted, cellsOf, planOf}
+use Rattle.plans.specs.Plan.{Accepted, cellsOf, planOf, roundsOfPlan}
 use Rattle.plans.proofs.Headers.{by-method}
 use Rattle.plans.proofs.Addresses.{admitted-plan}
-use Rattle.plans.proofs.Same.{same-plan}
-use Rattle.requests.specs.Within.{headerIn}
+use Rattle.plans.proofs.Figures.{rounds-plan}
+use Rattle.plans.proofs.Same.{headerWord-headerOf, same-plan}
+use Rattle.requests.specs.WithinLimits.{headerIn}
 use Rattle.engine.specs.Run.{Lent, startOf, outcome}
-use Rattle.engine.specs.Demands.{RanOn, verdictTold, logTold, SamePublic}
-use Rattle.engine.proofs.Logs.{published}
-use Rattle.engine.proofs.Taken.{long}
-use Rattle.engine.proofs.Ran.{inside, allowed, cells-are, log-told, log-published}
+use Rattle.engine.specs.Demands.{RanOn, roundsTold, verdictTold, logTold, published, SamePublic}
+use Rattle.engine.proofs.Intake.{long}
+use Rattle.engine.proofs.Taken.{enough}
+use Rattle.engine.proofs.Ran.{inside, allowed, cells-are, rounds-are, log-told, log-published}
 
 -- ---- one run
 
@@ -29,12 +30,22 @@ module _ (request : List ℕ) (lent : Lent) (ran : RanOn request lent) where
       let h = headerIn request in
       let start = startOf request lent in
       let w = inside request lent ran in
-      let room : cellsOf h ≤ length start = rw (long request lent w) (w .cells-enough) in
+      let room : cellsOf h ≤ length start = rw (long request lent (enough request lent w)) (enough request lent w) in
       rw (log-told request lent ran, cells-are request lent ran)
       (replay-log (planOf h) start (admitted-plan h (allowed request lent ran) (length start) room))
 
-  pub planned : wordsOf (logTold request lent) ≡ planOf (headerIn request)
+  pub planned : withoutPublished (logTold request lent) ≡ planOf (headerIn request)
   planned = rw (log-told request lent ran) (words-log (planOf (headerIn request)) (startOf request lent))
+
+  pub own-header : getD request 0 0 < 2 ^ 64 → getD (logTold request lent) 0 0 ≡ getD request 0 0
+  unfolding planOf
+  own-header small = rw (log-published request lent ran) (headerWord-headerOf (getD request 0 0) small)
+
+  pub rounds-figure : roundsTold request lent ≡ roundsOfPlan (headerIn request)
+  rounds-figure =
+      rounds-are request lent ran
+      ∙ charge-log (planOf (headerIn request)) (startOf request lent)
+      ∙ rounds-plan (headerIn request) (allowed request lent ran)
 
 -- ---- two runs
 
@@ -69,7 +80,7 @@ same-logs request request′ lent lent′ ran ran′ =
       λ (e : logTold request lent ≡ logTold request′ lent′).
           let q : g ≡ h =
           same-plan g h (allowed request lent ran) b .0
-          (sym (planned request lent ran) ∙ ap wordsOf e ∙ planned request′ lent′ ran′) in
+          (sym (planned request lent ran) ∙ ap withoutPublished e ∙ planned request′ lent′ ran′) in
           record {
             method = ap (λ k. k .method) q;
             vertices = ap (λ k. k .vertices) q;

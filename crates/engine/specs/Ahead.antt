@@ -1,5 +1,5 @@
 -- The log beside the plan while it is carried out: as long as nothing is published, the log's words are the plan's, at the same places.
--- Rests on nothing.
+-- Rests on the toolchain's library alone.
 use mathlib.Core.Path.{_≡_}
 use mathlib.Core.List.{List}
 use Prim.Native.Nat.{ℕ, _<_, _≤_}

@@ -2,20 +2,23 @@
 -- buffer, nothing assumed of their words. Rests on everything below; the proofs are in proofs/.
 use mathlib.Core.Path.{_≡_}
 use mathlib.Core.Logic.{_↔_, _⊎_}
-use mathlib.Core.List.{List}
+use mathlib.Core.List.{List, [], _∷_, _++_}
 use mathlib.Core.Option.{none, some}
-use Prim.Native.Nat.{ℕ, _<_, _≤_}
+use Prim.Native.Nat.{ℕ, _^_, _<_, _≤_}
 use lib.IntN.{ℤ, pos}
 use lib.ListN.{length, getD, take, drop}
+use Rattle.machine.specs.Instruction.{All}
 use Rattle.machine.specs.Effect.{cellAt}
-use Rattle.machine.specs.Log.{replay, wordsOf, chargeOf}
-use Rattle.plans.specs.Limits.{far}
-use Rattle.plans.specs.Plan.{cellsOf, instructionsOf, planOf}
+use Rattle.machine.specs.Log.{Spares, replay, withoutPublished, chargeOf}
+use Rattle.plans.specs.declared.Header.{Header}
+use Rattle.plans.specs.Limits.{far, byMethod}
+use Rattle.plans.specs.Plan.{cellsOf, instructionsOf, planOf, roundsOfPlan}
 use Rattle.planner.specs.declared.Refusal.{Refusal}
 use Rattle.planner.specs.Refusal.{refused}
-use Rattle.runner.specs.Runner.{runnerRefusal, planOutcome}
+use Rattle.runner.specs.Runner.{logSize, runnerRefusal, planOutcome, planRounds, planLength, planLog}
+use Rattle.runner.specs.PlanWithin.{PlanWithin}
 use Rattle.requests.specs.Refusal.{logLengthOf}
-use Rattle.requests.specs.Within.{headerIn, wordsIn, Within}
+use Rattle.requests.specs.WithinLimits.{headerIn, wordsIn, WithinLimits}
 use Rattle.requests.specs.Intake.{sourceOf, laid, distanceCell, parentCell}
 use Rattle.graph.specs.Walk.{NegativeCycle}
 use Rattle.graph.specs.Shortest.{Shortest}
@@ -57,15 +60,17 @@ pub record Beyond (request : List ℕ) (lent : Lent) : Type 0 where
 pub record Demand1 (request : List ℕ) (lent : Lent) : Type 0 where
   -- Every request within the limits is run to its end, and no other.
   pub runs : RanOn request lent
-      ↔ Within request (length (lent .cells)) (length (lent .log)) (length (lent .distances)) (length (lent .parents))
+      ↔ WithinLimits request (length (lent .cells)) (length (lent .log)) (length (lent .distances)) (length (lent .parents))
   -- Every other gets its number and, where there is one, its place, and changes no lent buffer.
   pub refuses : (r : Refusal) → refusalOf request lent ≡ some r
       → outcome request lent
       ≡ record { answer = refused r; cells = lent .cells; log = lent .log; distances = lent .distances; parents = lent .parents }
   -- A run is told by 0 or, with verdict 1, by 12, with rounds, log length and verdict.
   pub tells : RanOn request lent
-      → ((outcome request lent .answer .number ≡ 0) × (verdictTold request lent ≡ 0))
-      ⊎ ((outcome request lent .answer .number ≡ 12) × (verdictTold request lent ≡ 1))
+      → (outcome request lent .answer
+      ≡ record { number = 0; place = none; values = roundsTold request lent ∷ lengthTold request lent ∷ 0 ∷ [] })
+      ⊎ (outcome request lent .answer
+      ≡ record { number = 12; place = none; values = roundsTold request lent ∷ lengthTold request lent ∷ 1 ∷ [] })
   -- A negative cycle leaves cells and log, and no results.
   pub no-results : RanOn request lent → verdictTold request lent ≡ 1
       → (outcome request lent .distances ≡ lent .distances) × (outcome request lent .parents ≡ lent .parents)
@@ -88,6 +93,10 @@ pub record Demand2 (request : List ℕ) (lent : Lent) : Type 0 where
 
 -- ---- demand 3: what the log tells
 
+-- The words that a run publishes: in method 1 the verdict.
+abbrev pub published : Header → (verdict : ℕ) → List ℕ
+published h verdict = byMethod (h .method) [] ((verdict ∷ []) ∷ [] ∷ [])
+
 -- What is public of two runs is the same: method, vertices, the header's edges, source and, in method 1, the verdict.
 pub record SamePublic (request : List ℕ) (lent : Lent) (request′ : List ℕ) (lent′ : Lent) : Type 0 where
   pub method : headerIn request .method ≡ headerIn request′ .method
@@ -105,8 +114,16 @@ pub record Demand3 (request : List ℕ) (lent : Lent) : Type 0 where
   -- (b) The log alone, carried out from the starting cells, leaves what the run left, every lent cell; the rounds are the log's charge.
   pub carried-out : RanOn request lent → replay (logTold request lent) (startOf request lent) ≡ some (outcome request lent .cells)
   pub charged : RanOn request lent → roundsTold request lent ≡ chargeOf (logTold request lent)
-  -- (c) The log without its published words is the plan of the header, whichever the verdict.
-  pub planned : RanOn request lent → wordsOf (logTold request lent) ≡ planOf (headerIn request)
+  -- (c) The log without its published words is the plan of the header, whichever the verdict. With them it is that plan and the verdict, and
+  -- its first word is the request's own.
+  pub planned : RanOn request lent → withoutPublished (logTold request lent) ≡ planOf (headerIn request)
+  pub verdict-last : RanOn request lent
+      → logTold request lent ≡ planOf (headerIn request) ++ published (headerIn request) (verdictTold request lent)
+  pub own-header : RanOn request lent → getD request 0 0 < 2 ^ 64 → getD (logTold request lent) 0 0 ≡ getD request 0 0
+  -- The length and the rounds told are document 01's figures for the header, and the log has that many words.
+  pub length-figure : RanOn request lent → lengthTold request lent ≡ logLengthOf (headerIn request)
+  pub length-whole : RanOn request lent → length (logTold request lent) ≡ lengthTold request lent
+  pub rounds-figure : RanOn request lent → roundsTold request lent ≡ roundsOfPlan (headerIn request)
   -- (d) Each needed cell starts with one field of a word or 0, as the header says; the others as lent. Results are copies of cells left.
   pub laid-cells : RanOn request lent → (k : ℕ) → k < cellsOf (headerIn request)
       → cellAt (startOf request lent) k ≡ laid (wordsIn request) (sourceOf (headerIn request) k)
@@ -121,14 +138,27 @@ pub record Demand3 (request : List ℕ) (lent : Lent) : Type 0 where
 
 -- ---- foreign plans: demands 1 and 3 of the runner
 
+-- A foreign plan ran when the runner met no refusal.
+abbrev pub PlanRanOn : (plan : List ℕ) (cells : List ℤ) (log : List ℕ) → Type 0
+PlanRanOn plan cells log = runnerRefusal plan (length cells) (length log) ≡ none
+
 pub record DemandPlan (plan : List ℕ) (cells : List ℤ) (log : List ℕ) : Type 0 where
+  -- Every plan within the limits is run to its end, and no other.
+  pub runs : PlanRanOn plan cells log ↔ PlanWithin plan (length cells) (length log)
+  -- Every other gets its number and, where there is one, its place, and changes no lent buffer.
   pub refuses : (r : Refusal) → runnerRefusal plan (length cells) (length log) ≡ some r
       → planOutcome plan cells log ≡ record { answer = refused r; cells = cells; log = log }
-  pub carried-out : runnerRefusal plan (length cells) (length log) ≡ none
-      → replay (take (getD (planOutcome plan cells log .answer .values) 1 0) (planOutcome plan cells log .log)) cells
-      ≡ some (planOutcome plan cells log .cells)
-  pub charged : runnerRefusal plan (length cells) (length log) ≡ none
-      → getD (planOutcome plan cells log .answer .values) 0 0
-      ≡ chargeOf (take (getD (planOutcome plan cells log .answer .values) 1 0) (planOutcome plan cells log .log))
-  pub planned : runnerRefusal plan (length cells) (length log) ≡ none
-      → wordsOf (take (getD (planOutcome plan cells log .answer .values) 1 0) (planOutcome plan cells log .log)) ≡ plan
+  -- A run is told by 0, with rounds and log length: each word, and the published cell after each OPEN.
+  pub tells : PlanRanOn plan cells log
+      → planOutcome plan cells log .answer
+      ≡ record { number = 0; place = none; values = planRounds plan cells log ∷ planLength plan cells log ∷ [] }
+  pub length-figure : PlanRanOn plan cells log → planLength plan cells log ≡ logSize plan
+  -- What lies beyond the log, and each cell that no word of the plan writes, is as it was lent.
+  pub log-beyond : PlanRanOn plan cells log → drop (logSize plan) (planOutcome plan cells log .log) ≡ drop (logSize plan) log
+  pub cells-long : PlanRanOn plan cells log → length (planOutcome plan cells log .cells) ≡ length cells
+  pub cells-spared : PlanRanOn plan cells log → (k : ℕ) → All (Spares k) (drop 1 plan)
+      → cellAt (planOutcome plan cells log .cells) k ≡ cellAt cells k
+  -- The log alone, carried out from the lent cells, leaves what the run left; the rounds are its charge; without its published words it is the plan.
+  pub carried-out : PlanRanOn plan cells log → replay (planLog plan cells log) cells ≡ some (planOutcome plan cells log .cells)
+  pub charged : PlanRanOn plan cells log → planRounds plan cells log ≡ chargeOf (planLog plan cells log)
+  pub planned : PlanRanOn plan cells log → withoutPublished (planLog plan cells log) ≡ plan

@@ -1,30 +1,32 @@
--- The network that a request describes (document 01, "Yards, lanes and totals" and "Request words").
+-- The network that a request describes (document 01, "Yards, lanes and totals" and "Request words"), by its words alone: neither intake nor FAR is named.
 -- Rests on request words and on graph.
+use mathlib.Core.Path.{_≡_}
+use mathlib.Core.Logic.{_≢_}
 use mathlib.Core.List.{List, [], _∷_}
-use Prim.Native.Nat.{ℕ, _+_, _*_}
-use lib.IntN.{natAbs}
+use Prim.Native.Nat.{ℕ, _+_, _*_, _<_}
+use lib.IntN.{negsuc}
 use lib.ListN.{getD}
 use Rattle.plans.specs.declared.Header.{Header}
-use Rattle.plans.specs.Limits.{far, byMethod}
+use Rattle.plans.specs.Limits.{byMethod}
 use Rattle.requests.specs.Word.{fromField, toField, weightOf}
-use Rattle.requests.specs.Intake.{orFar}
 use Rattle.graph.specs.Walk.{Edge, Network}
 use Rattle.graph.specs.Shortest.{Naming}
 use Rattle.graph.specs.BellmanFord.{network, numbered}
-use Rattle.graph.specs.Dijkstra.{tableNetwork, fromVertex}
+use Rattle.graph.specs.Dijkstra.{fromVertex}
 
 -- Method 1: the edge of each word.
 abbrev pub edgeOf : (words : List ℕ) (i : ℕ) → Edge
 edgeOf ws i = record { from = fromField (getD ws i 0); to = toField (getD ws i 0); weight = weightOf (getD ws i 0) }
 
--- Method 2: the weight from u to v, FAR where there is no edge.
-abbrev pub tableOf : (n : ℕ) (words : List ℕ) (u v : ℕ) → ℕ
-tableOf n ws u v = natAbs (orFar (weightOf (getD ws (u * n + v) 0)))
+-- Method 2: an edge from u to v is there exactly where the word at u n + v is not -1, with that word's weight.
+pub record Entered (n : ℕ) (words : List ℕ) (e : Edge) : Type 0 where
+  pub from-there : e .from < n
+  pub to-there : e .to < n
+  pub entered : weightOf (getD words (e .from * n + e .to) 0) ≢ negsuc 0
+  pub weighs : e .weight ≡ weightOf (getD words (e .from * n + e .to) 0)
 
 unfoldable pub networkOf : Header → (words : List ℕ) → Network
-networkOf h ws =
-    byMethod (h .method) (λ e. ⊥)
-    (network (edgeOf ws) (h .edges) ∷ tableNetwork (natAbs far) (h .vertices) (tableOf (h .vertices) ws) ∷ [])
+networkOf h ws = byMethod (h .method) (λ e. ⊥) (network (edgeOf ws) (h .edges) ∷ Entered (h .vertices) ws ∷ [])
 
 -- What a parent mark names: in method 1 an edge by its number, in method 2 an edge by its from-vertex.
 unfoldable pub namingOf : Header → (words : List ℕ) → Naming

@@ -17,7 +17,7 @@ use Rattle.planner.specs.Refusal.{Told, refused}
 use Rattle.planner.specs.Written.{overwritten}
 use Rattle.requests.specs.Refusal.{requestRefusal}
 use Rattle.requests.specs.Intake.{copied, startingCells, distanceCell, parentCell}
-use Rattle.requests.specs.Within.{headerIn, wordsIn}
+use Rattle.requests.specs.WithinLimits.{headerIn, wordsIn}
 use Rattle.engine.specs.declared.Report.{Report}
 use Rattle.engine.specs.declared.Answer.{Answer}
 use Rattle.engine.specs.declared.Answer.the-variants.{Ran, NegativeCycle, Refused}
@@ -29,10 +29,10 @@ abbrev pub valuesOf : Report → List ℕ
 valuesOf r = r .rounds ∷ r .«log_length» ∷ r .verdict ∷ []
 
 -- What an answer says, in document 01's number, place and values.
-abbrev pub told : Answer → Told
-told (Ran r) = record { number = 0; place = none; values = valuesOf r }
-told (NegativeCycle r) = record { number = 12; place = none; values = valuesOf r }
-told (Refused r) = refused r
+abbrev pub toldByRun : Answer → Told
+toldByRun (Ran r) = record { number = 0; place = none; values = valuesOf r }
+toldByRun (NegativeCycle r) = record { number = 12; place = none; values = valuesOf r }
+toldByRun (Refused r) = refused r
 
 -- ---- the request and what is lent
 
@@ -110,7 +110,7 @@ outcome request lent = outcomeBy (refusalOf request lent) request lent
 
 -- The answer and the four buffers are the outcome's.
 pub record Met (o : Outcome) (answer : Answer) (cells : List ℤ) (log : List ℕ) (distances parents : List ℤ) : Type 0 where
-  pub answers : told answer ≡ o .answer
+  pub answers : toldByRun answer ≡ o .answer
   pub cells-left : cells ≡ o .cells
   pub log-left : log ≡ o .log
   pub distances-left : distances ≡ o .distances

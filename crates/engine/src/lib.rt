@@ -9,7 +9,7 @@ ghost use mathlib.Core.Path.{_≡_};
 ghost use Prim.Native.Nat.{_+_, _<_, _≤_};
 ghost use lib.ListN.{length, getD, drop};
 ghost use Rattle.machine.specs.Effect.{cellAt};
-ghost use Rattle.machine.specs.Log.{cellsAfter, logOf, total, roundsOf};
+ghost use Rattle.machine.specs.Log.{cellsAfter, logOf, sumOf, roundsOf};
 ghost use Rattle.plans.specs.Plan.{Accepted, planOf, cellsOf, lengthOf, blocksFrom, blockSize, blocksUntil};
 ghost use Rattle.planner.specs.Written.{overwritten};
 ghost use Rattle.requests.specs.Intake.{copied, distanceCell};
@@ -46,7 +46,7 @@ fn next_word(h: Header, blocks: Blocks, log: &[u64], at: usize, k: usize) -> u64
 // The plan of the header carried out word by word, in order, each once, and logged.
 fn carry(h: Header, cells: &mut [i64], log: &mut [u64]) -> Tally
     requires { ⌜ Accepted h × (cellsOf h ≤ length (now cells)) × (length (logOf (planOf h) (now cells)) ≤ length (now log)) ⌝ }
-    ensures { λ r. ⌜ (r .rounds ≡ total roundsOf (drop 1 (planOf h))) × (r .length ≡ length (logOf (planOf h) (now (cells .entry)))) × (now (cells .exit) ≡ cellsAfter (drop 1 (planOf h)) (now (cells .entry))) × (now (log .exit) ≡ overwritten (logOf (planOf h) (now (cells .entry))) (now (log .entry))) ⌝ }
+    ensures { λ r. ⌜ (r .rounds ≡ sumOf roundsOf (drop 1 (planOf h))) × (r .length ≡ length (logOf (planOf h) (now (cells .entry)))) × (now (cells .exit) ≡ cellsAfter (drop 1 (planOf h)) (now (cells .entry))) × (now (log .exit) ≡ overwritten (logOf (planOf h) (now (cells .entry))) (now (log .entry))) ⌝ }
 {
     let size = planner::plan_length(h);
     let blocks = planner::blocks_of(h);

@@ -1,29 +1,29 @@
 // The engine for programs in other languages: three calls on plain numbers, with the answer as six numbers (docs/CALLING.md).
-// Rests on engine, runner, planner and console.
-use console::Place;
+// Rests on engine, runner and planner.
 use engine::Answer;
+use planner::Place;
 use planner::Refusal;
 use planner::Written;
 use runner::PlanAnswer;
 ghost use mathlib.Core.Path.{_≡_};
 ghost use Rattle.planner.specs.Refusal.{refused};
-ghost use Rattle.planner.specs.Written.{told as toldWritten};
-ghost use Rattle.runner.specs.Runner.{told as toldPlan, planOutcome};
-ghost use Rattle.engine.specs.Run.{told, outcome};
+ghost use Rattle.planner.specs.Written.{toldByWriting};
+ghost use Rattle.runner.specs.Runner.{toldByPlan, planOutcome};
+ghost use Rattle.engine.specs.Run.{toldByRun, outcome};
 ghost use Rattle.exports.specs.Answers.{numbersOf, LeftByRun, LeftByPlan, LeftByWriting};
 
 fn refusal_numbers(r: Refusal) -> [u64; 6]
     ensures { λ a. ⌜ a ≡ numbersOf (refused r) ⌝ }
 {
-    let number = console::number_of(r);
-    match console::place_of(r) {
+    let number = planner::number_of(r);
+    match planner::place_of(r) {
         Place::At(k) => [number, 1, k as u64, 0, 0, 0],
         Place::Nowhere => [number, 0, 0, 0, 0, 0],
     }
 }
 
 fn run_numbers(answer: Answer) -> [u64; 6]
-    ensures { λ a. ⌜ a ≡ numbersOf (told answer) ⌝ }
+    ensures { λ a. ⌜ a ≡ numbersOf (toldByRun answer) ⌝ }
 {
     match answer {
         Answer::Ran(r) => [0, 0, 0, r.rounds, r.log_length as u64, r.verdict],
@@ -33,7 +33,7 @@ fn run_numbers(answer: Answer) -> [u64; 6]
 }
 
 fn plan_numbers(answer: PlanAnswer) -> [u64; 6]
-    ensures { λ a. ⌜ a ≡ numbersOf (toldPlan answer) ⌝ }
+    ensures { λ a. ⌜ a ≡ numbersOf (toldByPlan answer) ⌝ }
 {
     match answer {
         PlanAnswer::Ran(t) => [0, 0, 0, t.rounds, t.length as u64, 0],
@@ -42,7 +42,7 @@ fn plan_numbers(answer: PlanAnswer) -> [u64; 6]
 }
 
 fn written_numbers(answer: Written) -> [u64; 6]
-    ensures { λ a. ⌜ a ≡ numbersOf (toldWritten answer) ⌝ }
+    ensures { λ a. ⌜ a ≡ numbersOf (toldByWriting answer) ⌝ }
 {
     match answer {
         Written::Length(size) => [0, 0, 0, size as u64, 0, 0],

@@ -1,11 +1,13 @@
 // Larger networks through the engine: 32 yards in both methods, 60 lanes in method 1, and the figures of their runs.
-// Rests on engine and printing; tests/model has the same networks, and expects the same figures.
+// Rests on engine and lines; tests/model has the same networks, and expects the same figures.
 use engine::Answer;
 use engine::Report;
 use libc::STDOUT_FILENO;
 use plans::Header;
+ghost use mathlib.Core.Path.{_≡_};
 ghost use Prim.Native.Nat.{_^_, _<_, _≤_};
 ghost use lib.ListN.{length};
+ghost use Rattle.engine.specs.Run.{toldByRun};
 
 // -1 in the 32 bits of a price; in a table it says that there is no lane.
 const MINUS_ONE: u64 = 4294967295;
@@ -198,8 +200,11 @@ fn checksum(log: &[u64], length: usize) -> u64 {
     sum
 }
 
-// `method yards lanes source rounds length verdict checksum`
-fn print_figures(h: Header, report: Report, log: &[u64]) {
+// `method yards lanes source rounds length verdict checksum`, from the start of `buffer`.
+fn put_figures(buffer: &mut [u8], h: Header, report: Report, log: &[u64]) -> usize
+    requires { ⌜ 168 ≤ length (now buffer) ⌝ }
+    ensures { λ r. ⌜ r ≤ 168 ⌝ }
+{
     let line = [
         h.method,
         h.vertices,
@@ -210,10 +215,32 @@ fn print_figures(h: Header, report: Report, log: &[u64]) {
         report.verdict,
         checksum(log, report.log_length),
     ];
-    printing::print_numbers(STDOUT_FILENO, &line);
+    text::put_numbers(buffer, 0, &line)
 }
 
-// Runs a request and prints its figures and, where there are results, its yards. The log of 32 yards and 60 lanes is the longest of these.
+// A run's figures and, where there are results, its yards.
+fn put_run(
+    buffer: &mut [u8],
+    h: Header,
+    answer: Answer,
+    log: &[u64],
+    distances: &[i64],
+    parents: &[i64],
+) -> usize
+    requires { ⌜ (2248 ≤ length (now buffer)) × (length (now distances) ≡ 32) × (length (now parents) ≡ 32) × (toldByRun answer .number ≡ 0 → h .vertices ≤ 32) ⌝ }
+    ensures { λ r. ⌜ r ≤ length (now (buffer .exit)) ⌝ }
+{
+    match answer {
+        Answer::Ran(report) => {
+            let next = put_figures(buffer, h, report, log);
+            lines::put_rows(buffer, next, h.vertices as usize, distances, parents)
+        }
+        Answer::NegativeCycle(report) => put_figures(buffer, h, report, log),
+        Answer::Refused(_) => text::put_bytes(buffer, 0, b"refused\n"),
+    }
+}
+
+// Runs a request and prints that. The log of 32 yards and 60 lanes is the longest of these.
 fn show(request: &[u64])
     requires { ⌜ 1 ≤ length (now request) ⌝ }
 {
@@ -223,18 +250,9 @@ fn show(request: &[u64])
     let mut distances = [0i64; 32];
     let mut parents = [0i64; 32];
     let answer = engine::run(request, &mut cells, &mut log, &mut distances, &mut parents);
-    match answer {
-        Answer::Ran(report) => {
-            print_figures(h, report, &log);
-            printing::print_rows(STDOUT_FILENO, h.vertices as usize, &distances, &parents);
-        }
-        Answer::NegativeCycle(report) => {
-            print_figures(h, report, &log);
-        }
-        Answer::Refused(_) => {
-            io::write_all(STDOUT_FILENO, b"refused\n");
-        }
-    }
+    let mut buffer = [0u8; 2248];
+    let size = put_run(&mut buffer, h, answer, &log, &distances, &parents);
+    io::write_all(STDOUT_FILENO, &buffer[..size]);
 }
 
 fn main() {

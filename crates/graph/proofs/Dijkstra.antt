@@ -76,14 +76,14 @@ sum-bound far table n entry st j l = go (pick far st n .0)
 -- ---- relaxing
 
 -- The offer a is below b, and wins with its mark q; or b stays with its mark p.
-data Outcome (a b : ℕ) (q p : ℤ) (d : ℕ) (r : ℤ) : Type 0 where
-  better : a < b → d ≡ a → r ≡ q → Outcome a b q p d r
-  kept : b ≤ a → d ≡ b → r ≡ p → Outcome a b q p d r
+data Contest (a b : ℕ) (q p : ℤ) (d : ℕ) (r : ℤ) : Type 0 where
+  better : a < b → d ≡ a → r ≡ q → Contest a b q p d r
+  kept : b ≤ a → d ≡ b → r ≡ p → Contest a b q p d r
 
-outcome : (a b : ℕ) (q p : ℤ) → Outcome a b q p (cond (ltb a b) a b) (cond (ltb a b) q p)
-outcome a b q p = go (ltb a b) refl
+contest : (a b : ℕ) (q p : ℤ) → Contest a b q p (cond (ltb a b) a b) (cond (ltb a b) q p)
+contest a b q p = go (ltb a b) refl
   where
-    go : (t : Bool) → ltb a b ≡ t → Outcome a b q p (cond t a b) (cond t q p)
+    go : (t : Bool) → ltb a b ≡ t → Contest a b q p (cond t a b) (cond t q p)
     go true e = better (ltb-true a b e) refl refl
     go false e = kept (ltb-false a b e) refl refl
 
@@ -167,8 +167,8 @@ module _ (far limit n source : ℕ) (table : ℕ → ℕ → ℕ) where
         abbrev next : State
         next = settle (st .dist u) (pos u) (rowOf far table (pos u)) st
 
-        offer : (j : ℕ) → Outcome (st .dist u + table u j) (st .dist j) (pos u) (st .parent j) (next .dist j) (next .parent j)
-        offer j = outcome (st .dist u + table u j) (st .dist j) (pos u) (st .parent j)
+        offer : (j : ℕ) → Contest (st .dist u + table u j) (st .dist j) (pos u) (st .parent j) (next .dist j) (next .parent j)
+        offer j = contest (st .dist u + table u j) (st .dist j) (pos u) (st .parent j)
 
         shrinks : (j : ℕ) → (next .dist j ≤ st .dist j) × (next .dist j ≤ st .dist u + table u j)
         shrinks j = elim (offer j) [ better a b e ↦ omega arith | kept a b e ↦ omega arith ]

@@ -9,3 +9,4 @@ pub mod Parents
 pub mod Relax
 pub mod BellmanFord
 pub mod Dijkstra
+pub mod SameEdges

@@ -1,5 +1,5 @@
 -- The pigeonhole principle: of n + 1 numbers below n two are equal.
--- Rests on nothing.
+-- Rests on the toolchain's library alone.
 use mathlib.Core.Path.{_≡_}
 use mathlib.Core.Logic.{_⊎_, inl, inr, _≢_}
 use Prim.Native.Nat.{ℕ, zero, suc, _<_, _≤_}

@@ -1,5 +1,5 @@
 -- Cases on a test, with its equation; and what tests joined by `&&` say.
--- Rests on nothing.
+-- Rests on the toolchain's library alone.
 use mathlib.Core.Path.{_≡_, refl, sym}
 use mathlib.Core.Bool.{Bool, true, false, _&&_, true≢false}
 

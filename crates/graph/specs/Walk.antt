@@ -1,5 +1,5 @@
 -- Networks and walks (document 01, "Yards, lanes and totals"). A walk may use an edge any number of times.
--- Rests on nothing.
+-- Rests on the toolchain's library alone.
 use mathlib.Core.Path.{_≡_}
 use mathlib.Core.List.{List, [], _∷_}
 use Prim.Native.Nat.{ℕ, _<_}

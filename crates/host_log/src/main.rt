@@ -1,11 +1,13 @@
 // What the host sees: a request from standard input is run as the desk's program runs it, and its log printed, a word a line.
-// Rests on printing.
+// Rests on console.
 use libc::STDIN_FILENO;
 use libc::STDOUT_FILENO;
-use printing::Part;
 
 fn main() {
+    // As much as the desk's program reads.
     let mut bytes = [0u8; 8208];
     let size = io::read_full(STDIN_FILENO, &mut bytes);
-    printing::serve(STDOUT_FILENO, &bytes[..size], Part::Log);
+    let mut text = [0u8; 139264];
+    let length = console::host_text(&bytes[..size], &mut text);
+    io::write_all(STDOUT_FILENO, &text[..length]);
 }

@@ -52,14 +52,14 @@ module _ (n op d a b : ℕ) where
 
   -- ---- of an admissible one
 
-  op-below : T (admissibleAt n op d a b) → op < 8
+  pub op-below : T (admissibleAt n op d a b) → op < 8
   op-below t = by-test (ltb op 8) refl
     where
       by-test : (x : Bool) → ltb op 8 ≡ x → op < 8
       by-test true e = ltb-true op 8 e
       by-test false e = absurd (rw (is-over (ltb-false op 8 e)) at t)
 
-  spare : T (admissibleAt n op d a b) → op ≡ 1 → b ≡ 0
+  pub spare : T (admissibleAt n op d a b) → op ≡ 1 → b ≡ 0
   unfolding zerosKept admissibleAt
   spare t e = eqb→eq b 0 (and-yes (eqb b 0) _ (rw e at t) .0)
 
@@ -68,6 +68,11 @@ module _ (n op d a b : ℕ) where
 
   pub open-a : T (admissibleAt n op d a b) → op ≡ 7 → a < n
   open-a t e = ltb→lt a n (and-yes (eqb d 0 && eqb b 0) _ (rw (is-open e) at t) .1)
+
+  pub open-zeros : T (admissibleAt n op d a b) → op ≡ 7 → (d ≡ 0) × (b ≡ 0)
+  open-zeros t e =
+      let p = and-yes (eqb d 0) _ (and-yes (eqb d 0 && eqb b 0) _ (rw (is-open e) at t) .0) in
+      (eqb→eq d 0 (p .0), eqb→eq b 0 (p .1))
 
   pub rest-in : T (admissibleAt n op d a b) → (op ≡ 0 → ⊥) → (op ≡ 7 → ⊥) → (op < 7) × (d < n) × (a < n) × (b < n)
   rest-in t n0 n7 =

@@ -1,5 +1,5 @@
 -- A region that is filled place by place, upward.
--- Rests on nothing.
+-- Rests on graph's Test.
 use mathlib.Core.Path.{_≡_, sym, ap, _∙_}
 use mathlib.Core.Bool.{cond}
 use Prim.Native.Nat.{ℕ, suc, _<_}

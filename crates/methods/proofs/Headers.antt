@@ -27,14 +27,14 @@ module _ (h : Header) (accepted : Accepted h) (cells : List ℤ) where
 
   module _ (limit : ℕ) (wide : Wide (natAbs far) limit) where
     pub header1 : (edge : ℕ → Edge) → h .method ≡ 1 → Method1.Laid limit edge (h .vertices) (h .edges) (h .source) cells
-        → Method1.Outcome (natAbs far) edge (h .vertices) (h .edges) (h .source) cells (cellsAfter (drop 1 (planOf h)) cells)
+        → Method1.Solved (natAbs far) edge (h .vertices) (h .edges) (h .source) cells (cellsAfter (drop 1 (planOf h)) cells)
     header1 edge e laid =
         rw (after-plan, instructions-one h e)
         (method1 (natAbs far) limit edge (h .vertices) (h .edges) (h .source) cells
         (room1 (natAbs far) limit wide (h .vertices) (accepted .vertices-few) (h .edges) (edges-small h accepted)) laid)
 
     pub header2 : (table : ℕ → ℕ → ℕ) → h .method ≡ 2 → Method2.Laid (natAbs far) limit table (h .vertices) (h .source) cells
-        → Method2.Outcome (natAbs far) table (h .vertices) (h .source) cells (cellsAfter (drop 1 (planOf h)) cells)
+        → Method2.Solved (natAbs far) table (h .vertices) (h .source) cells (cellsAfter (drop 1 (planOf h)) cells)
     header2 table e laid =
         rw (after-plan, instructions-two h e)
         (method2 (natAbs far) limit table (h .vertices) (h .source) cells

@@ -14,14 +14,14 @@ use Rattle.machine.specs.Effect.{bit, cellAt}
 use Rattle.plans.specs.Method1 as Method1
 use Rattle.plans.specs.Method1.{Places, places, opening, gather, relax, check, pass}
 use Rattle.plans.proofs.Blocks.{all-weaken}
-use Rattle.plans.proofs.Addresses.{Within, plan1-within}
+use Rattle.plans.proofs.Addresses.{Keeps, plan1-keeps}
 use Rattle.graph.specs.Walk.{Edge, Below}
 use Rattle.graph.specs.BellmanFord.{network, numbered, State, bellmanFord, slack}
 use Rattle.graph.proofs.Int.{arithℤ, abs-add, le-abs}
 use Rattle.graph.proofs.Parents.{carried}
 use Rattle.graph.proofs.BellmanFord.{negative-cycle, no-cycle, shortest}
 use Rattle.methods.specs.Bank.{performAll, Summed}
-use Rattle.methods.specs.Method1.{Room, Laid, Outcome, plan}
+use Rattle.methods.specs.Method1.{Room, Laid, Solved, plan}
 use Rattle.methods.proofs.Sums.{summed-map}
 use Rattle.methods.proofs.Banks.{renamed, Layout, Ended, on-bank}
 use Rattle.methods.proofs.Names.{Name, same, Store, regions, map-flat}
@@ -66,8 +66,8 @@ placed n m = omega arith
 
 good : (far : ℤ) (n m source : ℕ) → All (λ i. All (layout n m .Good) (addresses i)) (Method1.plan names far n m source)
 good far n m source =
-    all-weaken (Within (layout n m .Good) (λ z. Unit {0})) _ (λ i h. h .0) (Method1.plan names far n m source)
-    (plan1-within (layout n m .Good) (λ z. Unit {0}) names far n m (omega arith) (omega arith) source)
+    all-weaken (Keeps (layout n m .Good) (λ z. Unit {0})) _ (λ i h. h .0) (Method1.plan names far n m source)
+    (plan1-keeps (layout n m .Good) (λ z. Unit {0}) names far n m (omega arith) (omega arith) source)
 
 -- ---- the theorem
 
@@ -115,7 +115,7 @@ module _ (far limit : ℕ) (edge : ℕ → Edge) (n m source : ℕ) (cells : Lis
   parent : (v : ℕ) → v < n → cellAt left (places n m .P v) ≡ final .parent v
   parent v l = ap (cellAt left) (sym (placed n m .P v)) ∙ ran .1 .mirrored .cell (names .P v) l ∙ ran .1 .meets .parent v l
 
-  pub method1 : Outcome far edge n m source cells left
+  pub method1 : Solved far edge n m source cells left
   method1 =
       let s = laid .source-below in
       let weights = laid .limited .weight-most in

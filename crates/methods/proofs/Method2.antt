@@ -14,12 +14,12 @@ use Rattle.machine.specs.Effect.{cellAt}
 use Rattle.plans.specs.Method2.{Places, places, opening, fetch, turn}
 use Rattle.plans.specs.Method2 as Method2
 use Rattle.plans.proofs.Blocks.{all-weaken}
-use Rattle.plans.proofs.Addresses.{Within, Places2, plan2-within}
+use Rattle.plans.proofs.Addresses.{Keeps, Places2, plan2-keeps}
 use Rattle.graph.specs.Dijkstra.{tableNetwork, fromVertex, State, turns}
 use Rattle.graph.proofs.Parents.{carried}
 use Rattle.graph.proofs.Dijkstra.{dijkstra}
 use Rattle.methods.specs.Bank.{performAll, Summed}
-use Rattle.methods.specs.Method2.{Room, Laid, Outcome, plan}
+use Rattle.methods.specs.Method2.{Room, Laid, Solved, plan}
 use Rattle.methods.proofs.Sums.{summed-map}
 use Rattle.methods.proofs.Banks.{renamed, Layout, Ended, on-bank}
 use Rattle.methods.proofs.Names.{Name, same, Store, regions, map-flat}
@@ -71,8 +71,8 @@ named n =
 
 good : (far : ℤ) (n source : ℕ) → All (λ i. All (layout n .Good) (addresses i)) (Method2.plan names far n source)
 good far n source =
-    all-weaken (Within (layout n .Good) (λ z. Unit {0})) _ (λ i h. h .0) (Method2.plan names far n source)
-    (plan2-within (layout n .Good) (λ z. Unit {0}) names far n (named n) (omega arith) source)
+    all-weaken (Keeps (layout n .Good) (λ z. Unit {0})) _ (λ i h. h .0) (Method2.plan names far n source)
+    (plan2-keeps (layout n .Good) (λ z. Unit {0}) names far n (named n) (omega arith) source)
 
 -- ---- the theorem
 
@@ -112,7 +112,7 @@ module _ (far limit : ℕ) (table : ℕ → ℕ → ℕ) (n source : ℕ) (cells
   parent : (v : ℕ) → v < n → cellAt left (places n .P v) ≡ final .parent v
   parent v l = ap (cellAt left) (sym (placed n .P v)) ∙ ran .1 .mirrored .cell (names .P v) l ∙ ran .1 .meets .parent v l
 
-  pub method2 : Outcome far table n source cells left
+  pub method2 : Solved far table n source cells left
   method2 =
       record {
         shortest =

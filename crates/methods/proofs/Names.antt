@@ -28,28 +28,28 @@ base [] r = 0
 base (x ∷ xs) zero = 0
 base (x ∷ xs) (suc r) = x + base xs r
 
-abbrev pub Within : (sizes : List ℕ) (region place : ℕ) → Type 0
-Within [] r i = ⊥
-Within (x ∷ xs) zero i = i < x
-Within (x ∷ xs) (suc r) i = Within xs r i
+abbrev pub InRegion : (sizes : List ℕ) (region place : ℕ) → Type 0
+InRegion [] r i = ⊥
+InRegion (x ∷ xs) zero i = i < x
+InRegion (x ∷ xs) (suc r) i = InRegion xs r i
 
 abbrev pub whole : (sizes : List ℕ) → ℕ
 whole [] = 0
 whole (x ∷ xs) = x + whole xs
 
-pub within-below : (z : List ℕ) (r i : ℕ) → Within z r i → base z r + i < whole z
-within-below [] r i h = absurd h
-within-below (x ∷ xs) zero i h = omega arith
-within-below (x ∷ xs) (suc r) i h = omega (arith, within-below xs r i h)
+pub in-region-below : (z : List ℕ) (r i : ℕ) → InRegion z r i → base z r + i < whole z
+in-region-below [] r i h = absurd h
+in-region-below (x ∷ xs) zero i h = omega arith
+in-region-below (x ∷ xs) (suc r) i h = omega (arith, in-region-below xs r i h)
 
-one-place : (z : List ℕ) (r q i j : ℕ) → Within z r i → Within z q j → base z r + i ≡ base z q + j → (r ≡ q) × (i ≡ j)
+one-place : (z : List ℕ) (r q i j : ℕ) → InRegion z r i → InRegion z q j → base z r + i ≡ base z q + j → (r ≡ q) × (i ≡ j)
 one-place [] r q i j h k e = absurd h
 one-place (x ∷ xs) zero zero i j h k e = (refl, omega arith)
 one-place (x ∷ xs) zero (suc q) i j h k e = absurd (omega arith)
 one-place (x ∷ xs) (suc r) zero i j h k e = absurd (omega arith)
 one-place (x ∷ xs) (suc r) (suc q) i j h k e = let (a, b) = one-place xs r q i j h k (omega arith) in (ap suc a, b)
 
-pub apart : (z : List ℕ) (a b : Name) → Within z (a .0) (a .1) → Within z (b .0) (b .1)
+pub apart : (z : List ℕ) (a b : Name) → InRegion z (a .0) (a .1) → InRegion z (b .0) (b .1)
     → eqb (base z (a .0) + a .1) (base z (b .0) + b .1) ≡ same a b
 apart z a b h k =
     by-test (same a b)
@@ -69,9 +69,9 @@ abbrev pub regions : (sizes : List ℕ) → Layout Name same
 regions z =
     record {
       size = whole z;
-      Good = λ a. Within z (a .0) (a .1);
+      Good = λ a. InRegion z (a .0) (a .1);
       place = λ a. base z (a .0) + a .1;
-      below = λ a h. within-below z (a .0) (a .1) h;
+      below = λ a h. in-region-below z (a .0) (a .1) h;
       apart = apart z;
     }
 

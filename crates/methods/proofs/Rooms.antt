@@ -1,5 +1,5 @@
 -- Room for both methods, within 32 vertices and 128 edges: two inequalities, met by today's numbers and by those of ask 7.
--- Rests on nothing.
+-- Rests on the definitions alone.
 use Prim.Native.Nat.{ℕ, suc, _+_, _-_, _*_, _^_, _<_, _≤_}
 use native.Mathlib.Nat.{mul-le-mul, mul-le-mul-right}
 use native.Mathlib.Omega.{arith}

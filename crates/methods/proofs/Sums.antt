@@ -1,5 +1,5 @@
 -- What follows from what holds of every sum on the way. And that not every run is exact.
--- Rests on nothing.
+-- Rests on the definitions alone.
 use mathlib.Core.Path.{sym}
 use mathlib.Core.List.{List, [], _∷_}
 use mathlib.Core.Option.{Option, none, some}

@@ -39,7 +39,7 @@ pub record Laid (limit : ℕ) (edge : ℕ → Edge) (n m source : ℕ) (cells : 
 abbrev pub plan : (far n m source : ℕ) → List (Instruction ℕ)
 plan far n m source = Method1.plan (places n m) (pos far) n m source
 
-pub record Outcome (far : ℕ) (edge : ℕ → Edge) (n m source : ℕ) (cells left : List ℤ) : Type 0 where
+pub record Solved (far : ℕ) (edge : ℕ → Edge) (n m source : ℕ) (cells left : List ℤ) : Type 0 where
   pub cycle : (cellAt left (places n m .X 7) ≡ pos 1) ↔ NegativeCycle (network edge m) source
   pub none : (cellAt left (places n m .X 7) ≡ pos 0) ↔ ¬ NegativeCycle (network edge m) source
   pub shortest : ¬ NegativeCycle (network edge m) source

@@ -29,7 +29,7 @@ pub record Laid (far limit : ℕ) (table : ℕ → ℕ → ℕ) (n source : ℕ)
 abbrev pub plan : (far n source : ℕ) → List (Instruction ℕ)
 plan far n source = Method2.plan (places n) (pos far) n source
 
-pub record Outcome (far : ℕ) (table : ℕ → ℕ → ℕ) (n source : ℕ) (cells left : List ℤ) : Type 0 where
+pub record Solved (far : ℕ) (table : ℕ → ℕ → ℕ) (n source : ℕ) (cells left : List ℤ) : Type 0 where
   pub shortest :
       Shortest (tableNetwork far n table) fromVertex (pos far) n source
       (λ v. cellAt left (places n .D v)) (λ v. cellAt left (places n .P v))

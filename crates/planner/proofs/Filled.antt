@@ -1,5 +1,5 @@
 -- A list written from the start of a buffer, one element after the other: the loop's invariant and its laws. For any type of elements.
--- Rests on nothing.
+-- Rests on the toolchain's library alone.
 use mathlib.Core.Path.{_≡_, refl, sym, ap, _∙_}
 use mathlib.Core.List.{List, _∷_, _++_}
 use Prim.Native.Nat.{ℕ, _+_, _<_, _≤_, zero-le}

@@ -1,5 +1,5 @@
 -- Which refusal a header meets, by the ways out of `check_header`; a header that meets none is within the limits.
--- Rests on nothing.
+-- Rests on the definitions alone.
 use mathlib.Core.Path.{_≡_, refl, sym}
 use mathlib.Core.Bool.{Bool, true, false, _&&_}
 use mathlib.Core.Option.{Option, none, some}

@@ -1,3 +1,4 @@
 pub mod Word
 pub mod Refusal
 pub mod Written
+pub mod Facts

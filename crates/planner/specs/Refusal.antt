@@ -9,6 +9,8 @@ use Rattle.plans.specs.declared.Header.{Header}
 use Rattle.plans.specs.Limits.{mostMethod, mostVertices, mostEdges}
 use Rattle.planner.specs.declared.Refusal.{Refusal}
 use Rattle.planner.specs.declared.Refusal.the-variants.{Method, Vertices, Edges, Source, Words, Cells, Log, Results, Operation, Edge, Weight}
+use Rattle.planner.specs.declared.Place.{Place}
+use Rattle.planner.specs.declared.Place.the-variants.{At, Nowhere}
 use Rattle.planner.specs.declared.Checked.{Checked}
 use Rattle.planner.specs.declared.Checked.the-variants.{Accepted, Refused}
 
@@ -37,6 +39,11 @@ placeOf Results = none
 placeOf (Operation place) = some place
 placeOf (Edge place) = some place
 placeOf (Weight place) = some place
+
+-- A place as the code has it.
+abbrev pub placeShown : Option ℕ → Place
+placeShown none = Nowhere
+placeShown (some place) = At place
 
 -- An answer in document 01's terms: the refusal's number (0 where there is none), its place where there is one, and the values told.
 pub record Told : Type 0 where

@@ -27,9 +27,9 @@ abbrev pub overwritten : {X : Type 0} (words buffer : List X) → List X
 overwritten words buffer = words ++ drop (length words) buffer
 
 -- What an answer says.
-abbrev pub told : Written → Told
-told (Length size) = record { number = 0; place = none; values = size ∷ [] }
-told (Refused r) = refused r
+abbrev pub toldByWriting : Written → Told
+toldByWriting (Length size) = record { number = 0; place = none; values = size ∷ [] }
+toldByWriting (Refused r) = refused r
 
 -- The answer and the buffer, for the plan's words and the refusal met.
 abbrev pub answerOf : Option Refusal → (plan : List ℕ) → Told
@@ -45,5 +45,5 @@ abbrev pub planWords : (header : List ℕ) → List ℕ
 planWords header = planOf (headerOf (getD header 0 0))
 
 pub record WrittenPlan (header buffer : List ℕ) (answer : Written) (after : List ℕ) : Type 0 where
-  pub answers : told answer ≡ answerOf (planRefusal header (length buffer)) (planWords header)
+  pub answers : toldByWriting answer ≡ answerOf (planRefusal header (length buffer)) (planWords header)
   pub leaves : after ≡ bufferOf (planRefusal header (length buffer)) (planWords header) buffer

@@ -11,7 +11,7 @@ ghost use Rattle.machine.specs.Word.{encode};
 ghost use Rattle.plans.specs.Limits.{far, mostEdges};
 ghost use Rattle.plans.specs.Blocks.{starts};
 ghost use Rattle.plans.specs.Plan.{headerOf, Accepted, planOf, lengthOf, blocksFrom, blockSize, blocksUntil};
-ghost use Rattle.planner.specs.Refusal.{found, headerRefusal};
+ghost use Rattle.planner.specs.Refusal.{number, placeOf, placeShown, found, headerRefusal};
 ghost use Rattle.planner.specs.Written.{overwritten, WrittenPlan};
 ghost use Rattle.planner.specs.Word.{stop};
 
@@ -31,6 +31,12 @@ pub enum Refusal {
     Weight(usize),
 }
 
+// The place of a refusal, where there is one.
+pub enum Place {
+    At(usize),
+    Nowhere,
+}
+
 // Blocks of one and the same words: the first place of the first, their length, and the place after the last.
 pub struct Blocks {
     pub from: usize,
@@ -47,6 +53,44 @@ pub enum Checked {
 pub enum Written {
     Length(usize),
     Refused(Refusal),
+}
+
+// The number of a refusal.
+pub fn number_of(r: Refusal) -> u64
+    ensures { λ n. ⌜ n ≡ number r ⌝ }
+{
+    match r {
+        Refusal::Method => 1,
+        Refusal::Vertices => 2,
+        Refusal::Edges => 3,
+        Refusal::Source => 4,
+        Refusal::Words => 5,
+        Refusal::Cells => 6,
+        Refusal::Log => 7,
+        Refusal::Results => 8,
+        Refusal::Operation(_) => 9,
+        Refusal::Edge(_) => 10,
+        Refusal::Weight(_) => 11,
+    }
+}
+
+// Its place, where there is one.
+pub fn place_of(r: Refusal) -> Place
+    ensures { λ p. ⌜ p ≡ placeShown (placeOf r) ⌝ }
+{
+    match r {
+        Refusal::Method => Place::Nowhere,
+        Refusal::Vertices => Place::Nowhere,
+        Refusal::Edges => Place::Nowhere,
+        Refusal::Source => Place::Nowhere,
+        Refusal::Words => Place::Nowhere,
+        Refusal::Cells => Place::Nowhere,
+        Refusal::Log => Place::Nowhere,
+        Refusal::Results => Place::Nowhere,
+        Refusal::Operation(place) => Place::At(place),
+        Refusal::Edge(place) => Place::At(place),
+        Refusal::Weight(place) => Place::At(place),
+    }
 }
 
 // A header word taken apart.

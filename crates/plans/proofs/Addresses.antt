@@ -59,80 +59,80 @@ module _ (Number : ℤ → Type 0) where
   either false p q = q
 
 module _ {A : Type 0} (Cell : A → Type 0) (Number : ℤ → Type 0) where
-  abbrev pub Within : Instruction A → Type 0
-  Within i = All Cell (addresses i) × All Number (constants i)
+  abbrev pub Keeps : Instruction A → Type 0
+  Keeps i = All Cell (addresses i) × All Number (constants i)
 
   module _ (c : Method1.Places A) (far : ℤ) (n m : ℕ) (places : Places1 Cell c n m) (numbers : Numbers Number far n m) where
     open Places1 places using (from, to, weight, D, P, Y, X)
     open Numbers numbers using (vertex, edge)
 
-    opening1-within : (source : ℕ) → All Within (Method1.opening c far n source)
+    opening1-keeps : (source : ℕ) → All Keeps (Method1.opening c far n source)
     unfolding Method1.opening
-    opening1-within source =
+    opening1-keeps source =
         let vertices =
-        all-flat Within n (starts (c .Y) (c .D) (c .P) far source) (λ v l. search (Y, D, P, vertex, either Number)) in
-        all-concat Within (Method1.openingParts c far n source) (search (X, lit<))
+        all-flat Keeps n (starts (c .Y) (c .D) (c .P) far source) (λ v l. search (Y, D, P, vertex, either Number)) in
+        all-concat Keeps (Method1.openingParts c far n source) (search (X, lit<))
 
-    gather-within : (i : ℕ) → i < m → All Within (Method1.gather c far n i)
+    gather-keeps : (i : ℕ) → i < m → All Keeps (Method1.gather c far n i)
     unfolding Method1.gather
-    gather-within i h =
-        let vertices = all-flat Within n (Method1.select c far n i) (λ v l. search (from, D, Y, X, lit<)) in
-        all-concat Within (Method1.gatherParts c far n i) (search (weight, X, lit<))
+    gather-keeps i h =
+        let vertices = all-flat Keeps n (Method1.select c far n i) (λ v l. search (from, D, Y, X, lit<)) in
+        all-concat Keeps (Method1.gatherParts c far n i) (search (weight, X, lit<))
 
-    relax-within : (i : ℕ) → i < m → All Within (Method1.relax c far n i)
+    relax-keeps : (i : ℕ) → i < m → All Keeps (Method1.relax c far n i)
     unfolding Method1.relax
-    relax-within i h =
-        let vertices = all-flat Within n (Method1.update c far n i) (λ v l. search (to, D, P, Y, X, lit<)) in
-        all-concat Within (Method1.relaxParts c far n i) (search (gather-within, edge, X, lit<))
+    relax-keeps i h =
+        let vertices = all-flat Keeps n (Method1.update c far n i) (λ v l. search (to, D, P, Y, X, lit<)) in
+        all-concat Keeps (Method1.relaxParts c far n i) (search (gather-keeps, edge, X, lit<))
 
-    check-within : (i : ℕ) → i < m → All Within (Method1.check c far n i)
+    check-keeps : (i : ℕ) → i < m → All Keeps (Method1.check c far n i)
     unfolding Method1.check
-    check-within i h =
-        let vertices = all-flat Within n (Method1.test c far n i) (λ v l. search (to, D, Y, X, lit<)) in
-        all-concat Within (Method1.checkParts c far n i) (search gather-within)
+    check-keeps i h =
+        let vertices = all-flat Keeps n (Method1.test c far n i) (λ v l. search (to, D, Y, X, lit<)) in
+        all-concat Keeps (Method1.checkParts c far n i) (search gather-keeps)
 
-    pub plan1-within : (source : ℕ) → All Within (Method1.plan c far n m source)
+    pub plan1-keeps : (source : ℕ) → All Keeps (Method1.plan c far n m source)
     unfolding Method1.plan Method1.pass
-    plan1-within source =
-        let edges = all-flat Within m (Method1.relax c far n) relax-within in
-        let checks = all-flat Within m (Method1.check c far n) check-within in
-        all-concat Within (Method1.planParts c far n m source) (search (opening1-within, all-flat Within, X, lit<))
+    plan1-keeps source =
+        let edges = all-flat Keeps m (Method1.relax c far n) relax-keeps in
+        let checks = all-flat Keeps m (Method1.check c far n) check-keeps in
+        all-concat Keeps (Method1.planParts c far n m source) (search (opening1-keeps, all-flat Keeps, X, lit<))
 
   module _ (c : Method2.Places A) (far : ℤ) (n : ℕ) (places : Places2 Cell c n) (numbers : Numbers Number far n 0) where
     open Places2 places using (U, D, P, Y, O, R, X)
     open Numbers numbers using (vertex)
 
-    opening2-within : (source : ℕ) → All Within (Method2.opening c far n source)
+    opening2-keeps : (source : ℕ) → All Keeps (Method2.opening c far n source)
     unfolding Method2.opening
-    opening2-within source =
-        let vertices = all-flat Within n (Method2.start c far n source) (λ v l. search (Y, D, P, O, vertex, either Number)) in
-        all-concat Within (Method2.openingParts c far n source) (search (X, lit<))
+    opening2-keeps source =
+        let vertices = all-flat Keeps n (Method2.start c far n source) (λ v l. search (Y, D, P, O, vertex, either Number)) in
+        all-concat Keeps (Method2.openingParts c far n source) (search (X, lit<))
 
-    fetch-within : (v : ℕ) → v < n → All Within (Method2.fetch c far n v)
+    fetch-keeps : (v : ℕ) → v < n → All Keeps (Method2.fetch c far n v)
     unfolding Method2.fetch
-    fetch-within v h =
-        let row = all-flat Within n (Method2.fetchCell c far n v) (λ j l. search (U, R, X, lit<)) in
-        all-concat Within (Method2.fetchParts c far n v) (search (Y, O, X, lit<))
+    fetch-keeps v h =
+        let row = all-flat Keeps n (Method2.fetchCell c far n v) (λ j l. search (U, R, X, lit<)) in
+        all-concat Keeps (Method2.fetchParts c far n v) (search (Y, O, X, lit<))
 
-    turn-within : All Within (Method2.turn c far n)
+    turn-keeps : All Keeps (Method2.turn c far n)
     unfolding Method2.turn
-    turn-within =
-        let chosen = all-flat Within n (Method2.choose c far n) (λ v l. search (D, Y, O, X, lit<)) in
-        let cleared = all-flat Within n (Method2.clear c far n) (λ j l. search (R, X, lit<)) in
-        let fetched = all-flat Within n (Method2.fetch c far n) fetch-within in
-        let relaxed = all-flat Within n (Method2.relax c far n) (λ j l. search (D, P, R, X, lit<)) in
-        all-concat Within (Method2.turnParts c far n) (search (X, lit<))
+    turn-keeps =
+        let chosen = all-flat Keeps n (Method2.choose c far n) (λ v l. search (D, Y, O, X, lit<)) in
+        let cleared = all-flat Keeps n (Method2.clear c far n) (λ j l. search (R, X, lit<)) in
+        let fetched = all-flat Keeps n (Method2.fetch c far n) fetch-keeps in
+        let relaxed = all-flat Keeps n (Method2.relax c far n) (λ j l. search (D, P, R, X, lit<)) in
+        all-concat Keeps (Method2.turnParts c far n) (search (X, lit<))
 
-    pub plan2-within : (source : ℕ) → All Within (Method2.plan c far n source)
+    pub plan2-keeps : (source : ℕ) → All Keeps (Method2.plan c far n source)
     unfolding Method2.plan
-    plan2-within source =
-        let turns = all-flat Within n (λ t. Method2.turn c far n) (λ t l. turn-within) in
-        all-concat Within (Method2.planParts c far n source) (search opening2-within)
+    plan2-keeps source =
+        let turns = all-flat Keeps n (λ t. Method2.turn c far n) (λ t l. turn-keeps) in
+        all-concat Keeps (Method2.planParts c far n source) (search opening2-keeps)
 
 -- ---- the methods' own places: cells below a count, numbers of 40 bits
 
 abbrev pub Below : (count : ℕ) → Instruction ℕ → Type 0
-Below count = Within (λ a. a < count) (λ z. mag z < 2 ^ 39)
+Below count = Keeps (λ a. a < count) (λ z. mag z < 2 ^ 39)
 
 places1-below : (n m count : ℕ) → Method1.cellCount n m ≤ count → Places1 (λ a. a < count) (Method1.places n m) n m
 places1-below n m count h = omega arith
@@ -155,13 +155,13 @@ numbers-small n m h l = omega arith
 pub below1 : (n m source count : ℕ) → n ≤ 2 ^ 39 → m ≤ 2 ^ 39 → Method1.cellCount n m ≤ count
     → All (Below count) (Method1.plan (Method1.places n m) far n m source)
 below1 n m source count h l k =
-    plan1-within (λ a. a < count) (λ z. mag z < 2 ^ 39) (Method1.places n m) far n m (places1-below n m count k)
+    plan1-keeps (λ a. a < count) (λ z. mag z < 2 ^ 39) (Method1.places n m) far n m (places1-below n m count k)
     (numbers-small n m h l) source
 
 pub below2 : (n source count : ℕ) → n ≤ 2 ^ 39 → Method2.cellCount n ≤ count
     → All (Below count) (Method2.plan (Method2.places n) far n source)
 below2 n source count h k =
-    plan2-within (λ a. a < count) (λ z. mag z < 2 ^ 39) (Method2.places n) far n (places2-below n count k)
+    plan2-keeps (λ a. a < count) (λ z. mag z < 2 ^ 39) (Method2.places n) far n (places2-below n count k)
     (numbers-small n 0 h (omega arith)) source
 
 -- ---- the plan of a header
@@ -177,7 +177,7 @@ pub cells-few : (h : Header) → Accepted h → cellsOf h ≤ 1190
 unfolding cellsOf
 cells-few =
     by-method (λ h. cellsOf h ≤ 1190) (λ n m source a. omega arith)
-    (λ n source a. omega (arith, square-le n (a .vertices-few)))
+    (λ n source a. omega (arith, square-le n (omega arith)))
 
 pub addresses-plan : (h : Header) → Accepted h → All (λ i. All (λ a. a < cellsOf h) (addresses i)) (instructionsOf h)
 addresses-plan h a =

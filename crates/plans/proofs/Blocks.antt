@@ -1,5 +1,5 @@
 -- Lists made of blocks: sums over a weight and lengths, which element stands where, and what holds of every element. For any type of elements.
--- Rests on nothing.
+-- Rests on the definitions alone.
 use mathlib.Core.Path.{_≡_, refl, sym, ap, subst, _∙_}
 use mathlib.Core.Logic.{⊎-elim}
 use mathlib.Core.List.{List, [], _∷_, _++_, map}
@@ -10,32 +10,32 @@ use lib.Arith.{digits-lt}
 use lib.ListN.{length, getD, List·getD-append}
 use lib.Seq.{getD-append-add}
 use Rattle.machine.specs.Instruction.{All}
-use Rattle.machine.specs.Log.{total}
+use Rattle.machine.specs.Log.{sumOf}
 use Rattle.plans.specs.Blocks.{flat, concat}
 
 -- ---- sums
 
 module _ {X : Type 0} (w : X → ℕ) where
-  pub total-append : (xs ys : List X) → total w (xs ++ ys) ≡ total w xs + total w ys
-  unfolding total
-  total-append [] ys = sym (zero-add (total w ys))
-  total-append (x ∷ xs) ys =
-      ap (λ (k : ℕ). w x + k) (total-append xs ys) ∙ sym (add-assoc (w x) (total w xs) (total w ys))
+  pub sum-append : (xs ys : List X) → sumOf w (xs ++ ys) ≡ sumOf w xs + sumOf w ys
+  unfolding sumOf
+  sum-append [] ys = sym (zero-add (sumOf w ys))
+  sum-append (x ∷ xs) ys =
+      ap (λ (k : ℕ). w x + k) (sum-append xs ys) ∙ sym (add-assoc (w x) (sumOf w xs) (sumOf w ys))
 
   -- Blocks of one sum.
-  pub total-flat : (each : ℕ) (f : ℕ → List X) → ((i : ℕ) → total w (f i) ≡ each)
-      → (count : ℕ) → total w (flat count f) ≡ count * each
-  unfolding flat total
-  total-flat each f same zero = sym (zero-mul each)
-  total-flat each f same (suc count) =
-      total-append (flat count f) (f count) ∙ omega (arith, total-flat each f same count, same count, suc-mul count each)
+  pub sum-flat : (each : ℕ) (f : ℕ → List X) → ((i : ℕ) → sumOf w (f i) ≡ each)
+      → (count : ℕ) → sumOf w (flat count f) ≡ count * each
+  unfolding flat sumOf
+  sum-flat each f same zero = sym (zero-mul each)
+  sum-flat each f same (suc count) =
+      sum-append (flat count f) (f count) ∙ omega (arith, sum-flat each f same count, same count, suc-mul count each)
 
 module _ {X : Type 0} where
   -- A length is the sum of ones.
-  pub total-ones : (xs : List X) → total (λ x. 1) xs ≡ length xs
-  unfolding total
-  total-ones [] = refl
-  total-ones (x ∷ xs) = omega (arith, total-ones xs)
+  pub sum-ones : (xs : List X) → sumOf (λ x. 1) xs ≡ length xs
+  unfolding sumOf
+  sum-ones [] = refl
+  sum-ones (x ∷ xs) = omega (arith, sum-ones xs)
 
   -- ---- the element at a place
 
@@ -62,7 +62,7 @@ module _ {X : Type 0} where
   module _ (size : ℕ) (f : ℕ → List X) (same : (i : ℕ) → length (f i) ≡ size) where
     pub flat-length : (count : ℕ) → length (flat count f) ≡ count * size
     flat-length count =
-        sym (total-ones (flat count f)) ∙ total-flat (λ x. 1) size f (λ i. total-ones (f i) ∙ same i) count
+        sym (sum-ones (flat count f)) ∙ sum-flat (λ x. 1) size f (λ i. sum-ones (f i) ∙ same i) count
 
     -- Element r of block q.
     pub flat-at : (count q r : ℕ) (d : X) → q < count → r < size → getD (flat count f) (q * size + r) d ≡ getD (f q) r d
@@ -162,8 +162,8 @@ module _ {X : Type 0} (P : X → Type 0) where
   all-weaken Q s (x ∷ xs) p = (s x (p .0), all-weaken Q s xs (p .1))
 
 -- Elements of which P holds weigh as much when mapped.
-pub total-map : {X Z : Type 0} (P : X → Type 0) (w : X → ℕ) (f : X → Z) (u : Z → ℕ)
-    → ((x : X) → P x → u (f x) ≡ w x) → (xs : List X) → All P xs → total u (map f xs) ≡ total w xs
-unfolding total
-total-map P w f u s [] p = refl
-total-map P w f u s (x ∷ xs) p = omega (arith, s x (p .0), total-map P w f u s xs (p .1))
+pub sum-map : {X Z : Type 0} (P : X → Type 0) (w : X → ℕ) (f : X → Z) (u : Z → ℕ)
+    → ((x : X) → P x → u (f x) ≡ w x) → (xs : List X) → All P xs → sumOf u (map f xs) ≡ sumOf w xs
+unfolding sumOf
+sum-map P w f u s [] p = refl
+sum-map P w f u s (x ∷ xs) p = omega (arith, s x (p .0), sum-map P w f u s xs (p .1))

@@ -33,7 +33,7 @@ module _ (P : Header → Type 0)
   by-method h a = at-method (h .method) (h .vertices) (h .edges) (h .source) a
 
 pub edges-small : (h : Header) → Accepted h → h .edges ≤ 128
-edges-small = by-method (λ h. h .edges ≤ 128) (λ n m source a. a .edges-few) (λ n source a. omega arith)
+edges-small = by-method (λ h. h .edges ≤ 128) (λ n m source a. omega arith) (λ n source a. omega arith)
 
 -- ---- the plan's instructions and words
 

@@ -1,3 +1,4 @@
+pub mod Facts
 pub mod Blocks
 pub mod Weights
 pub mod Bounds

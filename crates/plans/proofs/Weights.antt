@@ -8,18 +8,18 @@ use native.Mathlib.Omega.{arith}
 use lib.IntN.{ℤ}
 use lib.ListN.{length}
 use Rattle.machine.specs.Instruction.{Instruction, opOf}
-use Rattle.machine.specs.Log.{total}
+use Rattle.machine.specs.Log.{sumOf}
 use Rattle.plans.specs.Blocks.{flat, starts}
 use Rattle.plans.specs.Method1 as Method1
 use Rattle.plans.specs.Method2 as Method2
-use Rattle.plans.proofs.Blocks.{total-append, total-flat, total-ones}
+use Rattle.plans.proofs.Blocks.{sum-append, sum-flat, sum-ones}
 
 abbrev pub weigh : {A : Type 0} (w : ℕ → ℕ) → List (Instruction A) → ℕ
-weigh w = total (λ i. w (opOf i))
+weigh w = sumOf (λ i. w (opOf i))
 
 flat-weight : {A : Type 0} (w : ℕ → ℕ) (each : ℕ) (f : ℕ → List (Instruction A)) → ((i : ℕ) → weigh w (f i) ≡ each)
     → (count : ℕ) → weigh w (flat count f) ≡ count * each
-flat-weight w = total-flat (λ i. w (opOf i))
+flat-weight w = sum-flat (λ i. w (opOf i))
 
 -- ---- method 1
 
@@ -39,22 +39,22 @@ edge-weight n x y u z a b h p q =
 
 module _ {A : Type 0} (c : Method1.Places A) (far : ℤ) (n : ℕ) (w : ℕ → ℕ) where
   pub opening1-weight : (source : ℕ) → weigh w (Method1.opening c far n source) ≡ n * (3 * w 0) + 2 * w 0
-  unfolding Method1.opening total
+  unfolding Method1.opening sumOf
   opening1-weight source =
-      simp (total-append, flat-weight w (3 * w 0) (starts (c .Y) (c .D) (c .P) far source) (λ v. omega arith))
+      simp (sum-append, flat-weight w (3 * w 0) (starts (c .Y) (c .D) (c .P) far source) (λ v. omega arith))
       (omega arith)
 
   pub gather-weight : (i : ℕ) → weigh w (Method1.gather c far n i) ≡ n * (w 4 + w 6) + (w 1 + w 2 + w 3)
-  unfolding Method1.gather total
+  unfolding Method1.gather sumOf
   gather-weight i =
-      simp (total-append, flat-weight w (w 4 + w 6) (Method1.select c far n i) (λ v. omega arith)) (omega arith)
+      simp (sum-append, flat-weight w (w 4 + w 6) (Method1.select c far n i) (λ v. omega arith)) (omega arith)
 
   pub relax-weight : (i : ℕ)
       → weigh w (Method1.relax c far n i) ≡ n * (w 3 + 2 * w 4 + 2 * w 5 + 3 * w 6) + (w 0 + w 1 + w 2 + w 3)
-  unfolding Method1.relax total
+  unfolding Method1.relax sumOf
   relax-weight i =
       simp (
-        total-append,
+        sum-append,
         gather-weight,
         flat-weight w (w 3 + w 4 + 2 * w 5 + 2 * w 6) (Method1.update c far n i) (λ v. omega arith),
         mul-add,
@@ -64,10 +64,10 @@ module _ {A : Type 0} (c : Method1.Places A) (far : ℤ) (n : ℕ) (w : ℕ → 
 
   pub check-weight : (i : ℕ)
       → weigh w (Method1.check c far n i) ≡ n * (w 3 + 2 * w 4 + 2 * w 5 + 2 * w 6) + (w 1 + w 2 + w 3)
-  unfolding Method1.check total
+  unfolding Method1.check sumOf
   check-weight i =
       simp (
-        total-append,
+        sum-append,
         gather-weight,
         flat-weight w (w 3 + w 4 + 2 * w 5 + w 6) (Method1.test c far n i) (λ v. omega arith),
         mul-add,
@@ -86,7 +86,7 @@ module _ {A : Type 0} (c : Method1.Places A) (far : ℤ) (n : ℕ) (w : ℕ → 
       + 2 * w 0
       + m * (n * n * (w 3 + 2 * w 4 + 2 * w 5 + 3 * w 6) + n * (w 0 + w 1 + w 2 + w 3) - (n * w 6 + w 0))
       + w 7
-  unfolding Method1.plan total
+  unfolding Method1.plan sumOf
   plan1-weight m source h =
       -- An edge weighs n * a + b in a pass, n * x + y in the check.
       let a = w 3 + 2 * w 4 + 2 * w 5 + 3 * w 6 in
@@ -94,7 +94,7 @@ module _ {A : Type 0} (c : Method1.Places A) (far : ℤ) (n : ℕ) (w : ℕ → 
       let x = w 3 + 2 * w 4 + 2 * w 5 + 2 * w 6 in
       let y = w 1 + w 2 + w 3 in
       simp (
-        total-append,
+        sum-append,
         opening1-weight,
         flat-weight w (m * (n * a + b)) (λ p. Method1.pass c far n m) (λ p. pass-weight m),
         flat-weight w (n * x + y) (Method1.check c far n) check-weight,
@@ -110,21 +110,21 @@ module _ {A : Type 0} (c : Method1.Places A) (far : ℤ) (n : ℕ) (w : ℕ → 
 
 module _ {A : Type 0} (c : Method2.Places A) (far : ℤ) (n : ℕ) (w : ℕ → ℕ) where
   pub opening2-weight : (source : ℕ) → weigh w (Method2.opening c far n source) ≡ n * (4 * w 0) + 2 * w 0
-  unfolding Method2.opening total
+  unfolding Method2.opening sumOf
   opening2-weight source =
-      simp (total-append, flat-weight w (4 * w 0) (Method2.start c far n source) (λ v. omega arith)) (omega arith)
+      simp (sum-append, flat-weight w (4 * w 0) (Method2.start c far n source) (λ v. omega arith)) (omega arith)
 
   pub fetch-weight : (v : ℕ) → weigh w (Method2.fetch c far n v) ≡ n * w 6 + (w 4 + w 6)
-  unfolding Method2.fetch total
+  unfolding Method2.fetch sumOf
   fetch-weight v =
-      simp (total-append, flat-weight w (w 6) (Method2.fetchCell c far n v) (λ j. omega arith)) (omega arith)
+      simp (sum-append, flat-weight w (w 6) (Method2.fetchCell c far n v) (λ j. omega arith)) (omega arith)
 
   pub turn-weight : weigh w (Method2.turn c far n)
       ≡ n * n * w 6 + n * (w 1 + w 2 + 2 * w 3 + w 4 + w 5 + 5 * w 6) + (w 0 + w 1)
-  unfolding Method2.turn total
+  unfolding Method2.turn sumOf
   turn-weight =
       simp (
-        total-append,
+        sum-append,
         flat-weight w (w 3 + w 5 + 2 * w 6) (Method2.choose c far n) (λ v. omega arith),
         flat-weight w (w 1) (Method2.clear c far n) (λ j. omega arith),
         flat-weight w (n * w 6 + (w 4 + w 6)) (Method2.fetch c far n) fetch-weight,
@@ -137,11 +137,11 @@ module _ {A : Type 0} (c : Method2.Places A) (far : ℤ) (n : ℕ) (w : ℕ → 
 
   pub plan2-weight : (source : ℕ) → weigh w (Method2.plan c far n source)
       ≡ n * n * n * w 6 + n * n * (w 1 + w 2 + 2 * w 3 + w 4 + w 5 + 5 * w 6) + n * (5 * w 0 + w 1) + 2 * w 0
-  unfolding Method2.plan total
+  unfolding Method2.plan sumOf
   plan2-weight source =
       let each = n * n * w 6 + n * (w 1 + w 2 + 2 * w 3 + w 4 + w 5 + 5 * w 6) + (w 0 + w 1) in
       simp (
-        total-append,
+        sum-append,
         opening2-weight,
         flat-weight w each (λ t. Method2.turn c far n) (λ t. turn-weight),
         mul-add,
@@ -153,7 +153,7 @@ module _ {A : Type 0} (c : Method2.Places A) (far : ℤ) (n : ℕ) (w : ℕ → 
 -- ---- lengths: every op weighs 1
 
 by-ones : {A : Type 0} (block : List (Instruction A)) (k : ℕ) → weigh (λ op. 1) block ≡ k → length block ≡ k
-by-ones block k e = sym (total-ones block) ∙ e
+by-ones block k e = sym (sum-ones block) ∙ e
 
 module _ {A : Type 0} (c : Method1.Places A) (far : ℤ) (n : ℕ) where
   pub opening1-length : (source : ℕ) → length (Method1.opening c far n source) ≡ 3 * n + 2

@@ -3,3 +3,4 @@ pub mod Blocks
 pub mod Method1
 pub mod Method2
 pub mod Plan
+pub mod Facts

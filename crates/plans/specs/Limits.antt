@@ -1,4 +1,4 @@
--- The numbers that document 01 fixes, each named once. Rests on nothing.
+-- The numbers that document 01 fixes, each named once. Rests on the toolchain's library alone.
 use mathlib.Core.List.{List, [], _∷_}
 use Prim.Native.Nat.{ℕ, _-_, _^_}
 use lib.IntN.{ℤ, pos, negsuc}

@@ -1,29 +1,28 @@
 -- The starting cells: what each starts with, by the ways out of `start_cell`; how `lay` lays them; and what each cell then holds.
 -- Rests on Sizes, on blocks, and on the laws of signed numbers.
 use mathlib.Core.Path.{_≡_, refl, sym, ap, _∙_}
-use mathlib.Core.Bool.{true, false}
+use mathlib.Core.Bool.{Bool, true, false, cond}
 use mathlib.Core.List.{List}
 use Prim.Native.Nat.{ℕ, _+_, _-_, _*_, _^_, _<_, _≤_}
 use native.Mathlib.Omega.{arith}
 use lib.Arith.{digits-lt}
-use lib.IntN.{ℤ, pos}
+use lib.IntN.{ℤ, pos, negsuc}
 use lib.ListN.{length, getD, drop, length-drop}
 use lib.Seq.{getD-drop}
-use lib.Signed.{ltZ, mag}
+use lib.Signed.{mag}
 use mir.Syntax.{w64}
-use mir.Val.{toZ}
-use mir.Facts.{toZ-pos}
+use mir.Val.{toZ, ofZ}
+use mir.Facts.{toZ-pos, sfits-lit}
 use borrow.Author.Tests.{lt-ltb, le-ltb}
-use Rattle.fields.proofs.Shifts.{below, not-below}
-use Rattle.machine.specs.Effect.{cellAt}
-use Rattle.machine.proofs.Tested.{back, kept}
+use Rattle.machine.specs.Effect.{eqZ, cellAt}
+use Rattle.machine.proofs.Tested.{back, kept, eq-test, ne-test}
 use Rattle.plans.specs.declared.Header.{Header}
 use Rattle.plans.specs.Limits.{far}
 use Rattle.plans.specs.Method1 as Method1
 use Rattle.plans.specs.Method2 as Method2
 use Rattle.plans.specs.Plan.{cellsOf}
 use Rattle.requests.specs.Word.{fromField, toField, weightOf}
-use Rattle.requests.specs.Refusal.{wordsOf}
+use Rattle.requests.specs.Refusal.{wordCountOf}
 use Rattle.requests.specs.Intake.{Part, from, to, weight, entry, Source, field, nothing, sourceOf, orFar, partOf, laid, startingCells}
 use Rattle.requests.proofs.Copied.{copied-long, copied-at, copied-rest}
 use Rattle.requests.proofs.Sizes.{words-one, words-two, cells-one, cells-two}
@@ -71,7 +70,7 @@ module _ (h : Header) (k : ℕ) where
 -- ---- what it gives, by the ways out of `start_cell`
 
 -- The word that it reads is there.
-module _ (h : Header) (request : List ℕ) (counted : length (drop 1 request) ≡ wordsOf h) (k : ℕ) where
+module _ (h : Header) (request : List ℕ) (counted : length (drop 1 request) ≡ wordCountOf h) (k : ℕ) where
   pub from-there : h .method ≡ 1 → k < h .edges → k + 1 < length request
   from-there one l = omega (arith, words-one h one, length-drop 1 request)
 
@@ -124,13 +123,14 @@ module _ (h : Header) (request : List ℕ) (k : ℕ) where
       entry-cell : orFar v ≡ laid (drop 1 request) (sourceOf h k)
       entry-cell = ap orFar is ∙ laid-field request _ k entry (source-entry h k two l)
 
-      pub no-edge : ltZ (back v) (pos 0) ≡ true → far ≡ laid (drop 1 request) (sourceOf h k)
-      no-edge t = sym (ap orFar (below v (record { sfits = small }) t .is)) ∙ entry-cell
+      by-test : (t : Bool) → eqZ v (negsuc 0) ≡ t → cond t far v ≡ laid (drop 1 request) (sourceOf h k)
+      by-test t e = rw (← e) entry-cell
 
-      pub some-edge : ltZ (back v) (pos 0) ≡ false → back v ≡ laid (drop 1 request) (sourceOf h k)
-      some-edge t =
-          let n = not-below v (record { sfits = small }) t in
-          kept v small ∙ n .is ∙ sym (ap orFar (n .is)) ∙ entry-cell
+      pub no-edge : ofZ w64 v ≡ ofZ w64 (negsuc 0) → far ≡ laid (drop 1 request) (sourceOf h k)
+      no-edge e = by-test true (eq-test v (negsuc 0) (record { sfits = small }) (sfits-lit tt) e)
+
+      pub some-edge : (ofZ w64 v ≡ ofZ w64 (negsuc 0) → ⊥) → back v ≡ laid (drop 1 request) (sourceOf h k)
+      some-edge e = kept v small ∙ by-test false (ne-test v (negsuc 0) e)
 
     pub working-cell-two : h .vertices * h .vertices ≤ k → pos 0 ≡ laid (drop 1 request) (sourceOf h k)
     working-cell-two g = laid-nothing request _ (source-none-two h k two g)

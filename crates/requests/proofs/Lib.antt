@@ -1,6 +1,7 @@
+pub mod Facts
 pub mod Sizes
 pub mod Words
 pub mod Order
 pub mod Copied
 pub mod Laid
-pub mod Within
+pub mod WithinLimits

@@ -11,17 +11,17 @@ use Rattle.plans.specs.declared.Header.{Header}
 use Rattle.plans.specs.Plan.{cellsOf, lengthOf}
 use Rattle.planner.specs.declared.Refusal.the-variants.{Words, Cells, Log, Results}
 use Rattle.planner.specs.Refusal.{need}
-use Rattle.requests.specs.Refusal.{wordsOf, logLengthOf, sizesRefusal}
+use Rattle.requests.specs.Refusal.{wordCountOf, logLengthOf, sizesRefusal}
 
 -- ---- what the header asks for
 
 module _ (h : Header) where
-  pub words-one : h .method ≡ 1 → h .edges ≡ wordsOf h
-  unfolding wordsOf
+  pub words-one : h .method ≡ 1 → h .edges ≡ wordCountOf h
+  unfolding wordCountOf
   words-one e = rw e
 
-  pub words-two : h .method ≡ 2 → h .vertices * h .vertices ≡ wordsOf h
-  unfolding wordsOf
+  pub words-two : h .method ≡ 2 → h .vertices * h .vertices ≡ wordCountOf h
+  unfolding wordCountOf
   words-two e = rw e
 
   pub cells-one : h .method ≡ 1 → 3 * h .edges + 3 * h .vertices + 8 ≡ cellsOf h
@@ -44,26 +44,26 @@ module _ (h : Header) where
 -- ---- 5 to 8
 
 module _ (h : Header) (words cells log distances parents : ℕ) where
-  pub words-other : (words ≡ wordsOf h → ⊥) → some Words ≡ sizesRefusal h words cells log distances parents
+  pub words-other : (words ≡ wordCountOf h → ⊥) → some Words ≡ sizesRefusal h words cells log distances parents
   unfolding sizesRefusal
-  words-other n = rw (ne-eqb words (wordsOf h) n)
+  words-other n = rw (ne-eqb words (wordCountOf h) n)
 
-  module _ (w : words ≡ wordsOf h) where
+  module _ (w : words ≡ wordCountOf h) where
     pub cells-short : cells < cellsOf h → some Cells ≡ sizesRefusal h words cells log distances parents
     unfolding sizesRefusal
-    cells-short a = simp (eq-eqb words (wordsOf h) w, lt-leb (cellsOf h) cells a)
+    cells-short a = simp (eq-eqb words (wordCountOf h) w, lt-leb (cellsOf h) cells a)
 
     module _ (c : cellsOf h ≤ cells) where
       pub log-short : log < logLengthOf h → some Log ≡ sizesRefusal h words cells log distances parents
       unfolding sizesRefusal
-      log-short a = simp (eq-eqb words (wordsOf h) w, le-leb (cellsOf h) cells c, lt-leb (logLengthOf h) log a)
+      log-short a = simp (eq-eqb words (wordCountOf h) w, le-leb (cellsOf h) cells c, lt-leb (logLengthOf h) log a)
 
       module _ (l : logLengthOf h ≤ log) where
         by-results : need (leb (h .vertices) distances && leb (h .vertices) parents) Results none
             ≡ sizesRefusal h words cells log distances parents
         unfolding sizesRefusal
         by-results =
-            simp (eq-eqb words (wordsOf h) w, le-leb (cellsOf h) cells c, le-leb (logLengthOf h) log l)
+            simp (eq-eqb words (wordCountOf h) w, le-leb (cellsOf h) cells c, le-leb (logLengthOf h) log l)
 
         pub distances-short : distances < h .vertices → some Results ≡ sizesRefusal h words cells log distances parents
         distances-short a = rw (← by-results, lt-leb (h .vertices) distances a)

@@ -6,6 +6,7 @@ use Prim.Native.Nat.{ℕ, _-_, _*_}
 use lib.Dec.{ltb}
 use lib.IntN.{ℤ, pos, negsuc}
 use lib.ListN.{getD, drop}
+use Rattle.machine.specs.Effect.{eqZ}
 use Rattle.plans.specs.declared.Header.{Header}
 use Rattle.plans.specs.Limits.{far, byMethod}
 use Rattle.plans.specs.Blocks.{flat}
@@ -37,9 +38,9 @@ sourceOf h k =
 
 -- ---- the starting cells
 
+-- -1 as FAR, every other number as it is.
 abbrev pub orFar : ℤ → ℤ
-orFar (pos n) = pos n
-orFar (negsuc n) = far
+orFar z = cond (eqZ z (negsuc 0)) far z
 
 abbrev pub partOf : Part → (word : ℕ) → ℤ
 partOf from w = pos (fromField w)

@@ -1,4 +1,5 @@
 pub mod Word
 pub mod Refusal
 pub mod Intake
-pub mod Within
+pub mod WithinLimits
+pub mod Facts

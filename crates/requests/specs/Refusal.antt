@@ -20,8 +20,8 @@ use Rattle.requests.specs.Word.{fromField, toField, spareOfEdge, spareOf
 -- ---- what the header asks for
 
 -- How many words follow the header.
-unfoldable pub wordsOf : Header → ℕ
-wordsOf h = byMethod (h .method) 0 (h .edges ∷ (h .vertices * h .vertices) ∷ [])
+unfoldable pub wordCountOf : Header → ℕ
+wordCountOf h = byMethod (h .method) 0 (h .edges ∷ (h .vertices * h .vertices) ∷ [])
 
 -- How many words the log has: the plan's and, in method 1, the opened verdict.
 unfoldable pub logLengthOf : Header → ℕ
@@ -30,7 +30,7 @@ logLengthOf h = lengthOf h + byMethod (h .method) 0 (1 ∷ 0 ∷ [])
 -- 5 to 8, from the number of words after the header and the lengths of the lent buffers.
 unfoldable pub sizesRefusal : (h : Header) (words cells log distances parents : ℕ) → Option Refusal
 sizesRefusal h words cells log distances parents =
-    need (eqb words (wordsOf h)) Words
+    need (eqb words (wordCountOf h)) Words
     (need (leb (cellsOf h) cells) Cells
     (need (leb (logLengthOf h) log) Log
     (need (leb (h .vertices) distances && leb (h .vertices) parents) Results none)))

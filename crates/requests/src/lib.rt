@@ -9,14 +9,14 @@ ghost use lib.ListN.{length, drop};
 ghost use Rattle.plans.specs.Plan.{Accepted, cellsOf};
 ghost use Rattle.planner.specs.Refusal.{found};
 ghost use Rattle.requests.specs.Word as Word;
-ghost use Rattle.requests.specs.Refusal.{wordsOf, logLengthOf, sizesRefusal, shapeGood, weightGood, wordRefusal, wordsRefusal, requestRefusal};
+ghost use Rattle.requests.specs.Refusal.{wordCountOf, logLengthOf, sizesRefusal, shapeGood, weightGood, wordRefusal, wordsRefusal, requestRefusal};
 ghost use Rattle.requests.specs.Intake.{sourceOf, laid, startingCells};
 
 // ---- sizes that follow from the header
 
 fn words_needed(h: Header) -> usize
     requires { ⌜ Accepted h ⌝ }
-    ensures { λ r. ⌜ r ≡ wordsOf h ⌝ }
+    ensures { λ r. ⌜ r ≡ wordCountOf h ⌝ }
 {
     let n = h.vertices as usize;
     if h.method == 1 {
@@ -174,7 +174,7 @@ pub fn check(request: &[u64], cells: usize, log: usize, distances: usize, parent
 
 // What cell k starts with.
 fn start_cell(h: Header, request: &[u64], k: usize) -> i64
-    requires { ⌜ Accepted h × (length (drop 1 (now request)) ≡ wordsOf h) × (k < cellsOf h) ⌝ }
+    requires { ⌜ Accepted h × (length (drop 1 (now request)) ≡ wordCountOf h) × (k < cellsOf h) ⌝ }
     ensures { λ r. ⌜ r ≡ laid (drop 1 (now (request .entry))) (sourceOf h k) ⌝ }
 {
     let n = h.vertices as usize;
@@ -193,7 +193,7 @@ fn start_cell(h: Header, request: &[u64], k: usize) -> i64
     }
     if k < n * n {
         let value = weight(request[k + 1]);
-        if value < 0 {
+        if value == -1 {
             return plans::FAR;
         }
         return value;
@@ -203,7 +203,7 @@ fn start_cell(h: Header, request: &[u64], k: usize) -> i64
 
 // The needed cells laid; the others stay.
 pub fn lay(h: Header, request: &[u64], cells: &mut [i64])
-    requires { ⌜ Accepted h × (length (drop 1 (now request)) ≡ wordsOf h) × (cellsOf h ≤ length (now cells)) ⌝ }
+    requires { ⌜ Accepted h × (length (drop 1 (now request)) ≡ wordCountOf h) × (cellsOf h ≤ length (now cells)) ⌝ }
     ensures { λ _. ⌜ now (cells .exit) ≡ startingCells h (drop 1 (now (request .entry))) (now (cells .entry)) ⌝ }
 {
     let count = cells_needed(h);

@@ -7,7 +7,7 @@ use native.Mathlib.Omega.{arith}
 use lib.IntN.{ℤ}
 use lib.ListN.{length, drop}
 use borrow.Author.Tests.{le-leb, lt-leb}
-use Rattle.machine.specs.Log.{Admitted, cellsAfter, logOf, total, roundsOf}
+use Rattle.machine.specs.Log.{Admitted, cellsAfter, logOf, sumOf, roundsOf}
 use Rattle.machine.proofs.Replayed.{charge-log}
 use Rattle.planner.specs.declared.Refusal.{Refusal}
 use Rattle.planner.specs.declared.Refusal.the-variants.{Log, Operation}
@@ -48,7 +48,7 @@ module _ (plan : List ℕ) (cells : List ℤ) (log : List ℕ) where
     can-carry l = (admitted plan (length cells) clear, omega (arith, log-size plan cells))
 
     pub ran : size ≤ length log → (rounds : ℕ) (cells′ : List ℤ) (log′ : List ℕ)
-        → (rounds ≡ total roundsOf (drop 1 plan))
+        → (rounds ≡ sumOf roundsOf (drop 1 plan))
         × (cells′ ≡ cellsAfter (drop 1 plan) cells)
         × (log′ ≡ overwritten (logOf plan cells) log)
         → MetPlan (planOutcome plan cells log) (Ran (record { rounds = rounds; length = size })) cells′ log′

@@ -1,20 +1,25 @@
 -- What is asked of foreign plans: 9 is told at the lowest bad place, a refusal changes nothing, and a run's log is of the plan's words,
--- gives the run's cells when it is carried out again, and has the charge that is answered. Rests on Lowest and machine's Replayed.
-use mathlib.Core.Path.{_≡_, refl}
+-- gives the run's cells when it is carried out again, and has the charge and the length that are answered; the rest of the buffers stays.
+-- Rests on Lowest, Sized and machine's Replayed and Carried.
+use mathlib.Core.Path.{_≡_, refl, ap, _∙_}
 use mathlib.Core.Bool.{true, false}
 use mathlib.Core.List.{List, [], _∷_}
 use mathlib.Core.Option.{Option, none, some, Option·some-ne-none}
 use Prim.Native.Nat.{ℕ, _<_, _≤_}
 use native.Mathlib.Omega.{arith}
 use lib.IntN.{ℤ}
-use lib.ListN.{length, getD, take, drop}
-use lib.Seq.{take-append-seam}
-use Rattle.machine.specs.Log.{Admitted, cellsAfter, logOf, replay, wordsOf, chargeOf}
+use lib.ListN.{length, getD, drop}
+use lib.Seq.{take-append-seam, drop-at}
+use Rattle.machine.specs.Instruction.{All}
+use Rattle.machine.specs.Effect.{cellAt}
+use Rattle.machine.specs.Log.{Admitted, Spares, cellsAfter, logOf, replay, withoutPublished, chargeOf}
+use Rattle.machine.proofs.Carried.{length-after, spared-after}
 use Rattle.machine.proofs.Replayed.{replay-log, words-log}
 use Rattle.planner.specs.declared.Refusal.{Refusal}
 use Rattle.planner.specs.Refusal.{refused}
 use Rattle.planner.specs.Written.{orElse, overwritten}
-use Rattle.runner.specs.Runner.{badAt, firstBad, operationAt, runnerRefusal, planOutcome}
+use Rattle.runner.specs.Runner.{badAt, firstBad, operationAt, logSize, runnerRefusal, planOutcome, planRounds, planLength, planLog}
+use Rattle.runner.proofs.Sized.{log-size}
 use Rattle.runner.proofs.Lowest.{admitted-from, fine-before, bad-at}
 
 -- ---- the lowest bad place
@@ -52,10 +57,6 @@ module _ (plan : List ℕ) (cells : List ℤ) (log : List ℕ) where
   unfolding planOutcome
   refused-plan r e = rw e
 
-  -- The words that a run wrote to the log buffer: as many as it tells.
-  abbrev pub planLog : List ℕ
-  planLog = take (getD (planOutcome plan cells log .answer .values) 1 0) (planOutcome plan cells log .log)
-
   module _ (e : runnerRefusal plan (length cells) (length log) ≡ none) where
     outcome : planOutcome plan cells log
         ≡ record {
@@ -66,18 +67,38 @@ module _ (plan : List ℕ) (cells : List ℤ) (log : List ℕ) where
     unfolding planOutcome
     outcome = rw e
 
-    written : planLog ≡ logOf plan cells
+    written : planLog plan cells log ≡ logOf plan cells
     written = rw outcome (take-append-seam (logOf plan cells) _)
 
     able : Admitted (length cells) (drop 1 plan)
     unfolding runnerRefusal
     able = admitted plan (length cells) (none-found (firstBad (length cells) 1 (drop 1 plan)) _ e)
 
-    pub replayed-plan : replay planLog cells ≡ some (planOutcome plan cells log .cells)
+    pub replayed-plan : replay (planLog plan cells log) cells ≡ some (planOutcome plan cells log .cells)
     replayed-plan = rw (written, outcome) (replay-log plan cells able)
 
-    pub words-plan : wordsOf planLog ≡ plan
+    pub words-plan : withoutPublished (planLog plan cells log) ≡ plan
     words-plan = rw written (words-log plan cells)
 
-    pub charge-plan : getD (planOutcome plan cells log .answer .values) 0 0 ≡ chargeOf planLog
+    pub charge-plan : planRounds plan cells log ≡ chargeOf (planLog plan cells log)
     charge-plan = rw (written, outcome)
+
+    -- It tells 0, its rounds and its length.
+    pub told-plan : planOutcome plan cells log .answer
+        ≡ record { number = 0; place = none; values = planRounds plan cells log ∷ planLength plan cells log ∷ [] }
+    told-plan = rw outcome
+
+    pub length-told : planLength plan cells log ≡ logSize plan
+    length-told = rw outcome (log-size plan cells)
+
+    -- What lies beyond the log, and each cell that no word writes, is as it was lent.
+    pub log-beyond : drop (logSize plan) (planOutcome plan cells log .log) ≡ drop (logSize plan) log
+    log-beyond =
+        let size = log-size plan cells in
+        rw outcome (drop-at (logOf plan cells) _ (logSize plan) size ∙ ap (λ (k : ℕ). drop k log) size)
+
+    pub cells-long : length (planOutcome plan cells log .cells) ≡ length cells
+    cells-long = rw outcome (length-after (drop 1 plan) cells)
+
+    pub cells-spared : (k : ℕ) → All (Spares k) (drop 1 plan) → cellAt (planOutcome plan cells log .cells) k ≡ cellAt cells k
+    cells-spared k s = rw outcome (spared-after (drop 1 plan) cells k able s)

@@ -10,11 +10,11 @@ use lib.IntN.{ℤ}
 use lib.ListN.{length, getD, set, drop, length-set, length-append, drop-of-length-le}
 use lib.Seq.{sets, length-sets}
 use Rattle.machine.specs.Word.{admissible}
-use Rattle.machine.specs.Log.{carried, logged, Admitted, cellsAfter, logFrom, logOf, total, roundsOf}
+use Rattle.machine.specs.Log.{carried, logged, Admitted, cellsAfter, logFrom, logOf, sumOf, roundsOf}
 use Rattle.machine.proofs.Carried.{length-carried}
 use Rattle.planner.proofs.Filled.{next, from-start}
 use Rattle.planner.specs.Written.{overwritten}
-use Rattle.runner.proofs.Sized.{total-next, total-end}
+use Rattle.runner.proofs.Sized.{sum-next, sum-end}
 
 sets-append : (log : List ℕ) (at : ℕ) (xs ys : List ℕ) → sets log at (xs ++ ys) ≡ sets (sets log at xs) (at + length xs) ys
 sets-append log at [] ys = ap (λ (i : ℕ). sets log i ys) (sym (add-zero at))
@@ -32,7 +32,7 @@ pub record Turn (plan : List ℕ) (cells₀ : List ℤ) (log₀ : List ℕ) (cel
   pub leaves : cellsAfter (drop k plan) cells ≡ cellsAfter (drop 1 plan) cells₀
   pub writes : sets log at (logFrom (drop k plan) cells) ≡ sets log₀ 1 (logFrom (drop 1 plan) cells₀)
   pub ends : at + length (logFrom (drop k plan) cells) ≡ 1 + length (logFrom (drop 1 plan) cells₀)
-  pub charges : rounds + total roundsOf (drop k plan) ≡ total roundsOf (drop 1 plan)
+  pub charges : rounds + sumOf roundsOf (drop k plan) ≡ sumOf roundsOf (drop 1 plan)
   pub few : rounds ≤ 6 * k
 
 -- ---- the header
@@ -95,7 +95,7 @@ module _ {plan : List ℕ} {cells₀ : List ℤ} {log₀ : List ℕ} {cells : Li
   unfolding cellsAfter
   again cells′ log′ at′ cost c l r =
       let s : length log′ ≡ length log = ap length (l .1) ∙ length-sets log at (logged w cells) in
-      let n = total-next roundsOf plan k h in
+      let n = sum-next roundsOf plan k h in
       let u : roundsOf (getD plan k 0) ≡ cost = sym (r .0 ∙ ap roundsOf is) in
       record {
         admits = both .1;
@@ -118,7 +118,7 @@ pub record CarriedOut (plan : List ℕ) (cells₀ : List ℤ) (log₀ : List ℕ
   pub leaves : cells ≡ cellsAfter (drop 1 plan) cells₀
   pub writes : log ≡ overwritten (logOf plan cells₀) log₀
   pub ends : at ≡ length (logOf plan cells₀)
-  pub charges : rounds ≡ total roundsOf (drop 1 plan)
+  pub charges : rounds ≡ sumOf roundsOf (drop 1 plan)
 
 pub done : {plan : List ℕ} {cells₀ : List ℤ} {log₀ : List ℕ} {cells : List ℤ} {log : List ℕ} {at rounds k : ℕ} (w : ℕ)
     → Turn plan cells₀ (set log₀ 0 w) cells log at rounds k → 0 < length plan → w ≡ getD plan 0 0 → length plan ≤ k
@@ -136,11 +136,11 @@ done {plan} {cells₀} {log₀} {cells} {log} {at} {rounds} {k} w t h is e =
           ∙ ap (sets log₀ 0) (sym l)
           ∙ from-start (logOf plan cells₀) log₀ (omega (arith, ap length l, length-set log₀ 0 w));
       ends = omega (arith, ap length l);
-      charges = omega (arith, total-end roundsOf plan k e);
+      charges = omega (arith, sum-end roundsOf plan k e);
     }
 
 -- A plan without a header.
 pub no-words : (plan : List ℕ) (cells : List ℤ) (log : List ℕ) → length plan ≡ 0 → CarriedOut plan cells log cells log 0 0
-unfolding cellsAfter logOf total
+unfolding cellsAfter logOf sumOf
 no-words [] cells log e = record { leaves = refl; writes = refl; ends = refl; charges = refl }
 no-words (h ∷ ws) cells log e = let no : ⊥ = omega arith in absurd no

@@ -1,1 +1,3 @@
 pub mod Runner
+pub mod PlanWithin
+pub mod Facts

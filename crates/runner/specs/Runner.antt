@@ -7,9 +7,9 @@ use mathlib.Core.Option.{Option, none, some}
 use Prim.Native.Nat.{ℕ, suc, _+_}
 use lib.Dec.{leb}
 use lib.IntN.{ℤ}
-use lib.ListN.{length, drop}
+use lib.ListN.{length, getD, take, drop}
 use Rattle.machine.specs.Word.{admissible}
-use Rattle.machine.specs.Log.{opens, cellsAfter, logOf, total, chargeOf}
+use Rattle.machine.specs.Log.{opens, cellsAfter, logOf, sumOf, chargeOf}
 use Rattle.planner.specs.declared.Refusal.{Refusal}
 use Rattle.planner.specs.declared.Refusal.the-variants.{Log, Operation}
 use Rattle.planner.specs.Refusal.{Told, refused, need}
@@ -36,7 +36,7 @@ foundOf (some k) = At k
 
 -- How many words the log of a plan has: each word, and the published cell after each OPEN.
 unfoldable pub logSize : (plan : List ℕ) → ℕ
-logSize plan = length plan + total (λ w. cond (opens w) 1 0) (drop 1 plan)
+logSize plan = length plan + sumOf (λ w. cond (opens w) 1 0) (drop 1 plan)
 
 abbrev pub operationAt : Option ℕ → Option Refusal
 operationAt none = none
@@ -50,9 +50,9 @@ runnerRefusal plan count room =
 -- ---- the outcome: the answer and the two lent buffers
 
 -- What an answer says, in document 01's number, place and values: of a run, rounds and log length.
-abbrev pub told : PlanAnswer → Told
-told (Ran t) = record { number = 0; place = none; values = t .rounds ∷ t .length ∷ [] }
-told (Refused r) = refused r
+abbrev pub toldByPlan : PlanAnswer → Told
+toldByPlan (Ran t) = record { number = 0; place = none; values = t .rounds ∷ t .length ∷ [] }
+toldByPlan (Refused r) = refused r
 
 pub record PlanOutcome : Type 0 where
   pub answer : Told
@@ -72,8 +72,19 @@ planOutcomeBy (some r) plan cells log = record { answer = refused r; cells = cel
 unfoldable pub planOutcome : (plan : List ℕ) (cells : List ℤ) (log : List ℕ) → PlanOutcome
 planOutcome plan cells log = planOutcomeBy (runnerRefusal plan (length cells) (length log)) plan cells log
 
+-- What was told of a run: its rounds and its log's length; and the log, that many words from the start of the log buffer.
+module _ (plan : List ℕ) (cells : List ℤ) (log : List ℕ) where
+  abbrev pub planRounds : ℕ
+  planRounds = getD (planOutcome plan cells log .answer .values) 0 0
+
+  abbrev pub planLength : ℕ
+  planLength = getD (planOutcome plan cells log .answer .values) 1 0
+
+  abbrev pub planLog : List ℕ
+  planLog = take planLength (planOutcome plan cells log .log)
+
 -- The answer and both buffers are the outcome's.
 pub record MetPlan (o : PlanOutcome) (answer : PlanAnswer) (cells : List ℤ) (log : List ℕ) : Type 0 where
-  pub answers : told answer ≡ o .answer
+  pub answers : toldByPlan answer ≡ o .answer
   pub cells-left : cells ≡ o .cells
   pub log-left : log ≡ o .log

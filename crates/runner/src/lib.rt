@@ -4,7 +4,7 @@ use planner::Refusal;
 ghost use mathlib.Core.Path.{_≡_};
 ghost use Prim.Native.Nat.{_≤_};
 ghost use lib.ListN.{length, drop};
-ghost use Rattle.machine.specs.Log.{Admitted, cellsAfter, logOf, total, roundsOf};
+ghost use Rattle.machine.specs.Log.{Admitted, cellsAfter, logOf, sumOf, roundsOf};
 ghost use Rattle.planner.specs.Written.{overwritten};
 ghost use Rattle.runner.specs.Runner.{badAt, firstBad, foundOf, logSize, planOutcome, MetPlan};
 
@@ -69,7 +69,7 @@ fn log_length(plan: &[u64]) -> usize
 // The plan's operation words carried out in order, each once, and logged; the rounds.
 fn carry_plan(plan: &[u64], cells: &mut [i64], log: &mut [u64]) -> u64
     requires { ⌜ Admitted (length (now cells)) (drop 1 (now plan)) × (length (logOf (now plan) (now cells)) ≤ length (now log)) ⌝ }
-    ensures { λ r. ⌜ (r ≡ total roundsOf (drop 1 (now (plan .entry)))) × (now (cells .exit) ≡ cellsAfter (drop 1 (now (plan .entry))) (now (cells .entry))) × (now (log .exit) ≡ overwritten (logOf (now (plan .entry)) (now (cells .entry))) (now (log .entry))) ⌝ }
+    ensures { λ r. ⌜ (r ≡ sumOf roundsOf (drop 1 (now (plan .entry)))) × (now (cells .exit) ≡ cellsAfter (drop 1 (now (plan .entry))) (now (cells .entry))) × (now (log .exit) ≡ overwritten (logOf (now (plan .entry)) (now (cells .entry))) (now (log .entry))) ⌝ }
 {
     let mut rounds: u64 = 0;
     if plan.len() == 0 {

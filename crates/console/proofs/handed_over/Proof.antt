@@ -1,20 +1,16 @@
--- `console::handed_over` meets its contract. Rests on nothing.
-use borrow.Author.Tests.{lt-ltb, le-ltb, eq-eqb, ne-eqb}
-use Rattle.console.specs.Bytes.{handedOver}
+-- `console::handed_over` meets its contract. Rests on Handed.
+use mathlib.Core.Path.{_∙_}
+use native.Mathlib.Omega.{arith}
+use borrow.Author.Needs.{needs}
+use Rattle.console.proofs.Handed.{none-handed, whole-handed, broken-handed}
 use Rattle.console.proofs.handed_over.Statement.{statement}
 use Rattle.console.proofs.handed_over.Tie as tie
 
-returns : tie.Need-returns
-unfolding handedOver
-returns c = rw (lt-ltb (c .before .args .size) 8 (c .if1 .taken))
-
-returns-2 : tie.Need-returns-2
-unfolding handedOver
-returns-2 c = rw (le-ltb (c .before .before .args .size) 8 (c .before .if1 .left), eq-eqb _ 0 (c .if2 .taken))
-
-returns-3 : tie.Need-returns-3
-unfolding handedOver
-returns-3 c = rw (le-ltb (c .before .before .args .size) 8 (c .before .if1 .left), ne-eqb _ 0 (c .if2 .left))
-
 pub handed-over-spec : {M : Type 1} → statement M
-handed-over-spec = tie.close (tie.spec returns returns-2 returns-3)
+handed-over-spec =
+    tie.close
+    (tie.spec
+    (λ c. none-handed _ (omega arith))
+    (λ c κs. search needs)
+    (λ c. c .whole-count .ensures ∙ whole-handed _ (omega arith) (omega arith))
+    (λ c. broken-handed _ (omega arith) (c .if2 .left)))

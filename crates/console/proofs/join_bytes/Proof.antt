@@ -35,7 +35,7 @@ cast-join c = omega (arith, byte c)
 
 join-requires : tie.Need-join-requires Inv-loop μ-loop
 join-requires c κs =
-    (omega arith, byte c, room (c .before .before .loop .inv) (c .before .loop-test .taken))
+    (omega arith, byte c, room (c .before .before .loop .inv) (omega arith))
 
 add-i : tie.Need-add-i Inv-loop μ-loop
 add-i c = omega arith
@@ -46,7 +46,7 @@ loop-less c = omega arith
 loop-again : tie.Need-loop-again Inv-loop μ-loop
 loop-again c =
     let b = c .before in
-    again (b .before .before .loop .inv) (b .before .loop-test .taken) _ _ refl (byte b) (c .join .ensures)
+    again (b .before .before .loop .inv) (omega arith) _ _ refl (byte b) (c .join .ensures)
 
 returns : tie.Need-returns Inv-loop μ-loop
 returns c =

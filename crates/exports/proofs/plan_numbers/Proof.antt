@@ -1,4 +1,4 @@
--- `exports::plan_numbers` meets its contract. Rests on nothing.
+-- `exports::plan_numbers` meets its contract. Rests on the contracts of what it calls.
 use borrow.Author.Needs.{needs}
 use Rattle.exports.proofs.plan_numbers.Statement.{statement}
 use Rattle.exports.proofs.plan_numbers.Tie as tie

@@ -1,13 +1,12 @@
--- `exports::refusal_numbers` meets its contract. Rests on nothing.
+-- `exports::refusal_numbers` meets its contract. Rests on the definitions alone.
 use mathlib.Core.Path.{_≡_, refl}
 use mathlib.Core.List.{List, [], _∷_}
 use mathlib.Core.Option.{Option, none, some}
 use Prim.Native.Nat.{ℕ}
 use Rattle.planner.specs.declared.Refusal.{Refusal}
 use Rattle.planner.specs.Refusal as Refused
-use Rattle.console.specs.declared.Place.{Place}
-use Rattle.console.specs.declared.Place.the-variants.{At, Nowhere}
-use Rattle.console.specs.Lines.{placeOf}
+use Rattle.planner.specs.declared.Place.{Place}
+use Rattle.planner.specs.declared.Place.the-variants.{At, Nowhere}
 use Rattle.exports.specs.Answers.{placeNumbers, numbersOf}
 use borrow.Author.Needs.{needs}
 use Rattle.exports.proofs.refusal_numbers.Statement.{statement}
@@ -18,12 +17,12 @@ spread : (number : ℕ) → Place → List ℕ
 spread number (At k) = number ∷ 1 ∷ k ∷ 0 ∷ 0 ∷ 0 ∷ []
 spread number Nowhere = number ∷ 0 ∷ 0 ∷ 0 ∷ 0 ∷ 0 ∷ []
 
-spread-place : (number : ℕ) (place : Option ℕ) → spread number (placeOf place) ≡ number ∷ placeNumbers place (0 ∷ 0 ∷ 0 ∷ [])
+spread-place : (number : ℕ) (place : Option ℕ) → spread number (Refused.placeShown place) ≡ number ∷ placeNumbers place (0 ∷ 0 ∷ 0 ∷ [])
 unfolding spread
 spread-place number none = refl
 spread-place number (some k) = refl
 
-numbers : (r : Refusal) (number : ℕ) (place : Place) → number ≡ Refused.number r → place ≡ placeOf (Refused.placeOf r)
+numbers : (r : Refusal) (number : ℕ) (place : Place) → number ≡ Refused.number r → place ≡ Refused.placeShown (Refused.placeOf r)
     → spread number place ≡ numbersOf (Refused.refused r)
 numbers r number place e f = rw (e, f) (spread-place (Refused.number r) (Refused.placeOf r))
 

@@ -1,4 +1,4 @@
--- `exports::run_numbers` meets its contract. Rests on nothing.
+-- `exports::run_numbers` meets its contract. Rests on the contracts of what it calls.
 use borrow.Author.Needs.{needs}
 use Rattle.exports.proofs.run_numbers.Statement.{statement}
 use Rattle.exports.proofs.run_numbers.Tie as tie

@@ -1,4 +1,4 @@
--- `exports::vukstaja_run_plan` meets its contract. Rests on nothing.
+-- `exports::vukstaja_run_plan` meets its contract. Rests on the definitions alone.
 use mathlib.Core.Path.{_∙_, ap}
 use Rattle.exports.specs.Answers.{numbersOf}
 use borrow.Author.Needs.{needs}

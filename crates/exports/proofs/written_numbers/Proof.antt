@@ -1,4 +1,4 @@
--- `exports::written_numbers` meets its contract. Rests on nothing.
+-- `exports::written_numbers` meets its contract. Rests on the contracts of what it calls.
 use borrow.Author.Needs.{needs}
 use Rattle.exports.proofs.written_numbers.Statement.{statement}
 use Rattle.exports.proofs.written_numbers.Tie as tie

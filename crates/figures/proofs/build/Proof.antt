@@ -1,4 +1,4 @@
--- `figures::build` is safe and ends: each word is written once. Rests on nothing.
+-- `figures::build` is safe and ends: each word is written once. Rests on the contracts of what it calls.
 use mathlib.Core.Path.{_≡_}
 use Prim.Native.Nat.{_≤_, _<_, _-_}
 use borrow.Author.Needs.{needs}

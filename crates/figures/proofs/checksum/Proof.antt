@@ -1,4 +1,4 @@
--- `figures::checksum` is safe and ends: each word is taken in once. Rests on nothing.
+-- `figures::checksum` is safe and ends: each word is taken in once. Rests on the toolchain's library alone.
 use Prim.Native.Nat.{_≤_, _<_, _-_}
 use borrow.Author.Needs.{needs}
 use Rattle.figures.proofs.checksum.Statement.{statement}

@@ -1,4 +1,4 @@
--- `figures::draw` meets its contract. Rests on nothing.
+-- `figures::draw` meets its contract. Rests on the toolchain's library alone.
 use borrow.Author.Needs.{needs}
 use native.Mathlib.Nat.{mod-lt}
 use Rattle.figures.proofs.draw.Statement.{statement}

@@ -1,4 +1,4 @@
--- `planner::read_header` meets its contract. Rests on nothing.
+-- `planner::read_header` meets its contract. Rests on the contracts of what it calls.
 use borrow.Author.Needs.{needs}
 use Rattle.planner.proofs.read_header.Statement.{statement}
 use Rattle.planner.proofs.read_header.Tie as tie

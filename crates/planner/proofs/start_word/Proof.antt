@@ -1,4 +1,4 @@
--- `planner::start_word` meets its contract. Rests on nothing.
+-- `planner::start_word` meets its contract. Rests on the contracts of what it calls.
 use borrow.Author.Needs.{needs}
 use mathlib.Core.Path.{_≡_}
 use native.Mathlib.Omega.{arith}

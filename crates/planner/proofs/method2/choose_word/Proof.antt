@@ -1,4 +1,4 @@
--- `planner::method2::choose_word` meets its contract: an arm for each word. Rests on nothing.
+-- `planner::method2::choose_word` meets its contract: an arm for each word. Rests on the contracts of what it calls.
 use borrow.Author.Needs.{needs}
 use mathlib.Core.Path.{_≡_}
 use native.Mathlib.Omega.{arith}

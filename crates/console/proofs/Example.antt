@@ -1,0 +1,73 @@
+-- Bytes read and text printed, by computing: document 01's printed request, refusals, unreached vertices, both methods, and a log.
+-- Rests on the definitions alone.
+use mathlib.Core.Path.{_≡_, refl}
+use mathlib.Core.List.{[], _∷_}
+use Prim.Native.Nat.{_*_}
+use lib.ListN.{take, drop}
+use Rattle.fields.specs.Fields.{signedOf, bitsOf}
+use Rattle.text.specs.Text.{leading, decimal, signed, hexadecimal, lineOf}
+use Rattle.machine.specs.Effect.{bit, wrapAdd, both, pick, perform}
+use Rattle.machine.specs.Word.{packed, packedSet, decodeAt, zerosKept, present, admissibleAt}
+use Rattle.machine.specs.Log.{carry, logged, cellsAfter, logFrom, logOf, withoutPublishedFrom, withoutPublished, roundsOf, sumOf, chargeOf}
+use Rattle.plans.specs.Blocks.{flat}
+use Rattle.plans.specs.Method1 as Method1
+use Rattle.plans.specs.Method2 as Method2
+use Rattle.plans.specs.Plan.{instructionsOf, planOf, cellsOf, lengthOf}
+use Rattle.planner.specs.Refusal.{headerRefusal}
+use Rattle.requests.specs.Word.{weightOf}
+use Rattle.requests.specs.Refusal.{wordCountOf, logLengthOf, sizesRefusal, shapeGood, weightGood, wordRefusal, wordsRefusal, requestRefusal}
+use Rattle.requests.specs.Intake.{sourceOf, laid, copied, startingCells, distanceCell, parentCell}
+use Rattle.engine.specs.Run.{verdictOf, outcome}
+use Rattle.console.specs.Bytes.{joinedFrom, wholeWords, handedOver, requestOf}
+use Rattle.lines.specs.Texts.{textOf, logText}
+use Rattle.console.specs.Desk.{deskText, hostText}
+
+pub record Example : Type 0 where
+  -- Document 01's printed request: three lines. `1 2 1 0 112 0`, `0 0 -`, `1 -5 0`
+  pub results : deskText (0x10 ∷ 0 ∷ 2 ∷ 0 ∷ 0 ∷ 0x10 ∷ 0 ∷ 0 ∷ 0 ∷ 1 ∷ 0 ∷ 0 ∷ 0xFF ∷ 0xFF ∷ 0xFF ∷ 0xFB ∷ [])
+      ≡ 49 ∷ 32 ∷ 50 ∷ 32 ∷ 49 ∷ 32 ∷ 48 ∷ 32 ∷ 49 ∷ 49 ∷ 50 ∷ 32 ∷ 48 ∷ 10 ∷ 48 ∷ 32 ∷ 48 ∷ 32 ∷ 45 ∷ 10 ∷ 49 ∷ 32
+      ∷ 45 ∷ 53 ∷ 32 ∷ 48 ∷ 10 ∷ []
+  -- Method 2, an entry of 3 from 0 to 1, and none to 2. `2 3 0 0 260 0`, `0 0 -`, `1 3 0`, `2 - -`
+  pub unreached : deskText (0x20 ∷ 0 ∷ 3 ∷ 0 ∷ 0 ∷ 0 ∷ 0 ∷ 0 ∷ 0 ∷ 0 ∷ 0 ∷ 0 ∷ 0xFF ∷ 0xFF ∷ 0xFF ∷ 0xFF ∷ 0 ∷ 0 ∷ 0 ∷ 0 ∷ 0 ∷ 0 ∷ 0 ∷ 3
+      ∷ 0 ∷ 0 ∷ 0 ∷ 0 ∷ 0xFF ∷ 0xFF ∷ 0xFF ∷ 0xFF ∷ 0 ∷ 0 ∷ 0 ∷ 0 ∷ 0xFF ∷ 0xFF ∷ 0xFF ∷ 0xFF ∷ 0 ∷ 0 ∷ 0 ∷ 0 ∷ 0xFF
+      ∷ 0xFF ∷ 0xFF ∷ 0xFF ∷ 0 ∷ 0 ∷ 0 ∷ 0 ∷ 0xFF ∷ 0xFF ∷ 0xFF ∷ 0xFF ∷ 0 ∷ 0 ∷ 0 ∷ 0 ∷ 0xFF ∷ 0xFF ∷ 0xFF ∷ 0xFF ∷ 0
+      ∷ 0 ∷ 0 ∷ 0 ∷ 0xFF ∷ 0xFF ∷ 0xFF ∷ 0xFF ∷ 0 ∷ 0 ∷ 0 ∷ 0 ∷ 0xFF ∷ 0xFF ∷ 0xFF ∷ 0xFF ∷ [])
+      ≡ 50 ∷ 32 ∷ 51 ∷ 32 ∷ 48 ∷ 32 ∷ 48 ∷ 32 ∷ 50 ∷ 54 ∷ 48 ∷ 32 ∷ 48 ∷ 10 ∷ 48 ∷ 32 ∷ 48 ∷ 32 ∷ 45 ∷ 10 ∷ 49 ∷ 32
+      ∷ 51 ∷ 32 ∷ 48 ∷ 10 ∷ 50 ∷ 32 ∷ 45 ∷ 32 ∷ 45 ∷ 10 ∷ []
+  -- Seven bytes. `refused 1`
+  pub short : deskText (0x10 ∷ 0 ∷ 2 ∷ 0 ∷ 0 ∷ 0x10 ∷ 0 ∷ [])
+      ≡ 114 ∷ 101 ∷ 102 ∷ 117 ∷ 115 ∷ 101 ∷ 100 ∷ 32 ∷ 49 ∷ 10 ∷ []
+  -- A byte after one word that is a whole request. `refused 5`
+  pub broken : deskText (0x10 ∷ 0 ∷ 1 ∷ 0 ∷ 0 ∷ 0 ∷ 0 ∷ 0 ∷ 0 ∷ [])
+      ≡ 114 ∷ 101 ∷ 102 ∷ 117 ∷ 115 ∷ 101 ∷ 100 ∷ 32 ∷ 53 ∷ 10 ∷ []
+  -- A lane to a yard that is not there, at place 2. `refused 10 2`
+  pub no-vertex : deskText (0x10 ∷ 0 ∷ 2 ∷ 0 ∷ 0 ∷ 0x30 ∷ 0 ∷ 0 ∷ 0 ∷ 1 ∷ 0 ∷ 0 ∷ 0 ∷ 0 ∷ 0 ∷ 0 ∷ 0 ∷ 1 ∷ 0 ∷ 0 ∷ 0 ∷ 0 ∷ 0 ∷ 0 ∷ 0 ∷ 2
+      ∷ 0 ∷ 0 ∷ 0 ∷ 0 ∷ 0 ∷ 5 ∷ [])
+      ≡ 114 ∷ 101 ∷ 102 ∷ 117 ∷ 115 ∷ 101 ∷ 100 ∷ 32 ∷ 49 ∷ 48 ∷ 32 ∷ 50 ∷ 10 ∷ []
+  -- A loss circle. `refused 12`
+  pub loss-circle : deskText (0x10 ∷ 0 ∷ 1 ∷ 0 ∷ 0 ∷ 0x10 ∷ 0 ∷ 0 ∷ 0 ∷ 0 ∷ 0 ∷ 0 ∷ 0xFF ∷ 0xFF ∷ 0xFF ∷ 0xFF ∷ [])
+      ≡ 114 ∷ 101 ∷ 102 ∷ 117 ∷ 115 ∷ 101 ∷ 100 ∷ 32 ∷ 49 ∷ 50 ∷ 10 ∷ []
+  -- The first line of the printed request's log, `1000020000100000`, and its last, `0000000000000000`.
+  pub log-first : take 17 (hostText (0x10 ∷ 0 ∷ 2 ∷ 0 ∷ 0 ∷ 0x10 ∷ 0 ∷ 0 ∷ 0 ∷ 1 ∷ 0 ∷ 0 ∷ 0xFF ∷ 0xFF ∷ 0xFF ∷ 0xFB ∷ []))
+      ≡ 49 ∷ 48 ∷ 48 ∷ 48 ∷ 48 ∷ 50 ∷ 48 ∷ 48 ∷ 48 ∷ 48 ∷ 49 ∷ 48 ∷ 48 ∷ 48 ∷ 48 ∷ 48 ∷ 10 ∷ []
+  pub log-last : drop (17 * 47) (hostText (0x10 ∷ 0 ∷ 2 ∷ 0 ∷ 0 ∷ 0x10 ∷ 0 ∷ 0 ∷ 0 ∷ 1 ∷ 0 ∷ 0 ∷ 0xFF ∷ 0xFF ∷ 0xFF ∷ 0xFB ∷ []))
+      ≡ 48 ∷ 48 ∷ 48 ∷ 48 ∷ 48 ∷ 48 ∷ 48 ∷ 48 ∷ 48 ∷ 48 ∷ 48 ∷ 48 ∷ 48 ∷ 48 ∷ 48 ∷ 48 ∷ 10 ∷ []
+  -- The largest word, `18446744073709551615`, and `fedcba9876543210`.
+  pub largest : decimal 0xFFFFFFFFFFFFFFFF ≡ 49 ∷ 56 ∷ 52 ∷ 52 ∷ 54 ∷ 55 ∷ 52 ∷ 52 ∷ 48 ∷ 55 ∷ 51 ∷ 55 ∷ 48 ∷ 57 ∷ 53 ∷ 53 ∷ 49 ∷ 54 ∷ 49 ∷ 53 ∷ []
+  pub digits : hexadecimal 0xFEDCBA9876543210 ≡ 102 ∷ 101 ∷ 100 ∷ 99 ∷ 98 ∷ 97 ∷ 57 ∷ 56 ∷ 55 ∷ 54 ∷ 53 ∷ 52 ∷ 51 ∷ 50 ∷ 49 ∷ 48 ∷ []
+
+pub example : Example
+unfolding leading decimal signed hexadecimal lineOf signedOf bitsOf bit wrapAdd both pick perform packed packedSet decodeAt zerosKept present admissibleAt carry logged cellsAfter logFrom logOf withoutPublishedFrom withoutPublished roundsOf sumOf chargeOf flat Method1.opening Method1.gather Method1.relax Method1.check Method1.pass Method1.plan Method2.opening Method2.fetch Method2.turn Method2.plan instructionsOf planOf cellsOf lengthOf headerRefusal weightOf wordCountOf logLengthOf sizesRefusal shapeGood weightGood wordRefusal wordsRefusal requestRefusal sourceOf laid startingCells distanceCell parentCell verdictOf copied outcome joinedFrom wholeWords handedOver requestOf textOf logText deskText hostText
+example =
+    record {
+      results = refl;
+      unreached = refl;
+      short = refl;
+      broken = refl;
+      no-vertex = refl;
+      loss-circle = refl;
+      log-first = refl;
+      log-last = refl;
+      largest = refl;
+      digits = refl;
+    }

@@ -1,0 +1,97 @@
+-- Document 01's rules as one table of facts: what the definitions of each crate give for literal words, and each of the twelve numbers from a
+-- request or a foreign plan to its answer. Rests on engine, and on the tables of the crates below.
+use mathlib.Core.Path.{_≡_}
+use mathlib.Core.List.{List, [], _∷_, _++_}
+use mathlib.Core.Option.{none}
+use Prim.Native.Nat.{ℕ}
+use lib.IntN.{pos, negsuc}
+use lib.ListN.{replicate}
+use Rattle.machine.specs.Facts as Machine
+use Rattle.plans.specs.Facts as Plans
+use Rattle.planner.specs.Facts as Planner
+use Rattle.planner.specs.Facts.{byNumber, atPlace}
+use Rattle.planner.specs.Refusal.{Told}
+use Rattle.requests.specs.Facts as Requests
+use Rattle.runner.specs.Facts as Runner
+use Rattle.runner.specs.Runner.{planOutcome}
+use Rattle.engine.specs.Run.{Lent, outcome}
+
+-- Buffers lent with nines: cells, log words, distances, parents.
+abbrev pub nines : (cells log distances parents : ℕ) → Lent
+nines cells log distances parents =
+    record {
+      cells = replicate cells (pos 9);
+      log = replicate log 9;
+      distances = replicate distances (pos 9);
+      parents = replicate parents (pos 9);
+    }
+
+-- What a request is answered with such buffers.
+abbrev pub requestAnswered : (request : List ℕ) (cells log distances parents : ℕ) → Told
+requestAnswered request cells log distances parents = outcome request (nines cells log distances parents) .answer
+
+pub record Rules : Type 0 where
+  -- "Cell words"
+  pub machine : Machine.Facts
+  -- "Plan of method 1", "Plan of method 2", and the limits of "Request words"
+  pub plans : Plans.Facts
+  -- "Who caused it": numbers, headers, writing a plan
+  pub planner : Planner.Facts
+  -- "Who caused it": requests; intake
+  pub requests : Requests.Facts
+  -- "Who caused it": foreign plans
+  pub runner : Runner.Facts
+  -- "1: header missing, or method not 1 or 2."
+  pub one : (requestAnswered [] 17 48 2 2 ≡ byNumber 1) × (requestAnswered (0x3000020000100000 ∷ 0 ∷ []) 17 48 2 2 ≡ byNumber 1)
+  -- "2: n is 0 or over 32."
+  pub two : requestAnswered (0x1000000000100000 ∷ 0 ∷ []) 17 48 2 2 ≡ byNumber 2
+  -- "3: m over 128, or not 0 in method 2."
+  pub three : requestAnswered (0x2000010000100000 ∷ 0 ∷ []) 17 48 2 2 ≡ byNumber 3
+  -- "4: source not below n."
+  pub four : requestAnswered (0x1000020000100002 ∷ 0 ∷ []) 17 48 2 2 ≡ byNumber 4
+  -- "5: words after the header are not m, or not n² in method 2."
+  pub five : requestAnswered (0x1000020000100000 ∷ []) 17 48 2 2 ≡ byNumber 5
+  -- "6: too few cells."
+  pub six : requestAnswered (0x1000020000100000 ∷ 0 ∷ []) 16 48 2 2 ≡ byNumber 6
+  -- "7: log .. too short."
+  pub seven : requestAnswered (0x1000020000100000 ∷ 0 ∷ []) 17 47 2 2 ≡ byNumber 7
+  -- "8: a results buffer shorter than n."
+  pub eight : (requestAnswered (0x1000020000100000 ∷ 0 ∷ []) 17 48 1 2 ≡ byNumber 8) × (requestAnswered (0x1000020000100000 ∷ 0 ∷ []) 17 48 2 1 ≡ byNumber 8)
+  -- "9, with place": the SET at place 1 is fine, the COPY at place 2 has a b.
+  pub nine : planOutcome (0x1000020000100000 ∷ 0 ∷ 0x1000000000000001 ∷ []) (pos 9 ∷ pos 9 ∷ []) (9 ∷ 9 ∷ 9 ∷ []) .answer ≡ atPlace 9 2
+  -- "10, with place: a yard not below n, or spare bits not zero."
+  pub ten : requestAnswered (0x1000020000100000 ∷ 0x0200000000000000 ∷ []) 17 48 2 2 ≡ atPlace 10 0
+  -- "11, with place: price outside its range."
+  pub eleven : requestAnswered (0x1000020000100000 ∷ 0x00000000FFF0BDBF ∷ []) 17 48 2 2 ≡ atPlace 11 0
+  -- "12: loss circle", a lane from 0 to 0 at -1. "A request's run, 12 included, answers its rounds, log length and verdict"; without results.
+  pub twelve : (requestAnswered (0x1000010000100000 ∷ 0x00000000FFFFFFFF ∷ []) 14 18 1 1 ≡ record { number = 12; place = none; values = 34 ∷ 18 ∷ 1 ∷ [] })
+      × (outcome (0x1000010000100000 ∷ 0x00000000FFFFFFFF ∷ []) (nines 14 18 1 1) .distances ≡ pos 9 ∷ [])
+      × (outcome (0x1000010000100000 ∷ 0x00000000FFFFFFFF ∷ []) (nines 14 18 1 1) .parents ≡ pos 9 ∷ [])
+  -- "any other refusal only its number and, for 9 to 11, its place, and changes no lent buffer"
+  pub refuses : outcome (0x1000010000100000 ∷ 0x00000000FFF0BDBF ∷ []) (nines 14 18 1 1)
+      ≡ record {
+        answer = atPlace 11 0;
+        cells = replicate 14 (pos 9);
+        log = replicate 18 9;
+        distances = pos 9 ∷ [];
+        parents = pos 9 ∷ [];
+      }
+  -- "Cells, log and results beyond the needed part stay untouched": method 1, n = 1, m = 0, one place more of each.
+  pub untouched : outcome (0x1000010000000000 ∷ []) (nines 12 9 2 2)
+      ≡ record {
+        answer = record { number = 0; place = none; values = 6 ∷ 8 ∷ 0 ∷ [] };
+        cells = (pos 0 ∷ negsuc 0 ∷ pos 0 ∷ pos 274877906944 ∷ []) ++ replicate 7 (pos 0) ++ (pos 9 ∷ []);
+        log =
+            0x1000010000000000
+            ∷ 0x0000020000000000
+            ∷ 0x0000000000000000
+            ∷ 0x000001FFFFFFFFFF
+            ∷ 0x0000034000000000
+            ∷ 0x00000A0000000000
+            ∷ 0x7000000000A00000
+            ∷ 0
+            ∷ 9
+            ∷ [];
+        distances = pos 0 ∷ pos 9 ∷ [];
+        parents = negsuc 0 ∷ pos 9 ∷ [];
+      }

@@ -1,0 +1,58 @@
+-- `lines::put_answer` meets its contract: there is room for every answer. Rests on Answered and text's Written.
+use borrow.Author.Needs.{needs}
+use mathlib.Core.Path.{refl, sym}
+use Prim.Native.Nat.{_≤_}
+use native.Mathlib.Omega.{arith}
+use Rattle.text.proofs.Written.{wider}
+use Rattle.lines.proofs.Answered.{refused-text}
+use Rattle.lines.proofs.put_answer.Statement.{statement}
+use Rattle.lines.proofs.put_answer.Tie as tie
+
+-- A run has at most 32 vertices.
+few : (c : tie.After-known-told) → c .before .before .before .before .args .h .vertices ≤ 32
+few c = (rw (c .before .answer .given .1) at (c .before .before .before .before .pre .3)) refl
+
+put-results-requires : tie.Need-put-results-requires
+put-results-requires c κs =
+    let s = c .before .before .before .before .before in
+    let f = few (c .before) in
+    (omega (arith, s .pre .0), omega (arith, s .pre .1), omega (arith, s .pre .2))
+
+returns : tie.Need-returns
+returns c =
+    let p = c .before .before in
+    let k = p .before .before in
+    rw (k .before .answer .given .1) (wider (p .put-results .ensures) 2206 (omega (arith, few k)))
+
+returns-2 : tie.Need-returns-2
+returns-2 c =
+    let p = c .before .before in
+    rw (p .before .before .enum-told .given .1) (wider (p .put-refusal .ensures) 2206 (omega arith))
+
+returns-3 : tie.Need-returns-3
+returns-3 c =
+    let p = c .before .before in
+    let o = p .before in
+    let a = o .before .before .before .before in
+    let s = a .before .before .before .args in
+    rw (a .answer2 .given .1, sym (refused-text (a .answer2 .given .0 .0) (s .h) (s .distances .now) (s .parents .now)))
+    (wider (rw (o .before .number-of .ensures, o .place-of .ensures) at (p .put-refusal2 .ensures)) 2206 (omega arith))
+
+pub put-answer-spec : {M : Type 1} → statement M
+put-answer-spec =
+    tie.close
+    (tie.spec
+    (λ c. search needs)
+    put-results-requires
+    (λ c. search needs)
+    (λ c κs. search needs)
+    (λ c. search needs)
+    (λ c κs. search needs)
+    (λ c κs. search needs)
+    (λ c κs. search needs)
+    (λ c. search needs)
+    returns
+    (λ c. search needs)
+    returns-2
+    (λ c. search needs)
+    returns-3)

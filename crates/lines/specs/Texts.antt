@@ -1,0 +1,77 @@
+-- The text of a run's outcome, in bytes, as the desk's program prints it (document 01, "The desk's program"), and its log's text.
+-- Rests on the engine's outcomes and text's lines.
+use mathlib.Core.Bool.{cond, _||_}
+use mathlib.Core.List.{List, [], _∷_, _++_}
+use Prim.Native.Nat.{ℕ}
+use lib.Dec.{eqb}
+use lib.IntN.{ℤ, pos}
+use lib.ListN.{getD}
+use lib.Signed.{ltZ}
+use Rattle.text.specs.Text.{dash, decimal, signed, hexadecimal, lineOf, numbersLine}
+use Rattle.machine.specs.Effect.{eqZ}
+use Rattle.plans.specs.Blocks.{flat}
+use Rattle.plans.specs.Limits.{far}
+use Rattle.plans.specs.declared.Header.{Header}
+use Rattle.planner.specs.declared.Place.{Place}
+use Rattle.planner.specs.declared.Place.the-variants.{At, Nowhere}
+use Rattle.planner.specs.Refusal.{Told, placeShown}
+use Rattle.requests.specs.WithinLimits.{headerIn}
+use Rattle.engine.specs.Run.{Outcome}
+
+-- ---- `yard distance parent`
+
+-- A dash for unreached, and for no parent.
+abbrev pub distanceText : ℤ → List ℕ
+distanceText z = cond (eqZ z far) (dash ∷ []) (signed z)
+
+abbrev pub parentText : ℤ → List ℕ
+parentText z = cond (ltZ z (pos 0)) (dash ∷ []) (signed z)
+
+abbrev pub rowText : (v : ℕ) (distance parent : ℤ) → List ℕ
+rowText v distance parent = lineOf (decimal v ∷ distanceText distance ∷ parentText parent ∷ [])
+
+-- For each of the first `count` vertices.
+abbrev pub rowsText : (count : ℕ) (distances parents : List ℤ) → List ℕ
+rowsText count distances parents = flat count (λ v. rowText v (getD distances v (pos 0)) (getD parents v (pos 0)))
+
+-- ---- `method yards lanes source rounds verdict`, then the rows. A run tells its rounds, log length and verdict.
+
+abbrev pub resultsText : Header → (values : List ℕ) (distances parents : List ℤ) → List ℕ
+resultsText h values distances parents =
+    numbersLine (h .method ∷ h .vertices ∷ h .edges ∷ h .source ∷ getD values 0 0 ∷ getD values 2 0 ∷ [])
+    ++ rowsText (h .vertices) distances parents
+
+-- ---- `refused number place`, the place where there is one
+
+abbrev pub placeIfAny : Place → List ℕ
+placeIfAny (At place) = place ∷ []
+placeIfAny Nowhere = []
+
+-- "refused "
+abbrev pub refusedWord : List ℕ
+refusedWord = 114 ∷ 101 ∷ 102 ∷ 117 ∷ 115 ∷ 101 ∷ 100 ∷ 32 ∷ []
+
+abbrev pub refusalText : (number : ℕ) → Place → List ℕ
+refusalText number place = refusedWord ++ numbersLine (number ∷ placeIfAny place)
+
+-- ---- an answer
+
+abbrev pub toldText : Header → Told → (distances parents : List ℤ) → List ℕ
+toldText h t distances parents =
+    cond (eqb (t .number) 0) (resultsText h (t .values) distances parents) (refusalText (t .number) (placeShown (t .place)))
+
+unfoldable pub textOf : (request : List ℕ) → Outcome → List ℕ
+textOf request o = toldText (headerIn request) (o .answer) (o .distances) (o .parents)
+
+-- ---- a log, a word a line: of a request that ran, which met no refusal, or 12 alone
+
+abbrev pub wordsText : (count : ℕ) (words : List ℕ) → List ℕ
+wordsText count words = flat count (λ k. lineOf (hexadecimal (getD words k 0) ∷ []))
+
+abbrev pub toldLog : Told → (log : List ℕ) → List ℕ
+toldLog t log =
+    cond (eqb (t .number) 0 || eqb (t .number) 12) (wordsText (getD (t .values) 1 0) log)
+    (refusalText (t .number) (placeShown (t .place)))
+
+unfoldable pub logText : Outcome → List ℕ
+logText o = toldLog (o .answer) (o .log)

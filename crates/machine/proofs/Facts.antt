@@ -1,0 +1,35 @@
+-- The table of specs/Facts, by computing the definitions. Rests on the definitions alone else.
+use mathlib.Core.Path.{refl}
+use Rattle.fields.specs.Fields.{signedOf, bitsOf}
+use Rattle.machine.specs.Effect.{bit, wrapAdd, both, pick, perform}
+use Rattle.machine.specs.Word.{packed, packedSet, decodeAt, zerosKept, present, admissibleAt}
+use Rattle.machine.specs.Log.{carry, logged, cellsAfter, logFrom, logOf, replayFrom, replay, withoutPublishedFrom, withoutPublished, roundsOf, sumOf, chargeOf}
+use Rattle.machine.specs.Facts.{Facts}
+
+pub facts : Facts
+unfolding signedOf bitsOf bit wrapAdd both pick perform packed packedSet decodeAt zerosKept present admissibleAt carry logged cellsAfter logFrom logOf replayFrom replay withoutPublishedFrom withoutPublished roundsOf sumOf chargeOf
+facts =
+    record {
+      words = (refl, refl, refl, refl, refl, refl, refl, refl, refl);
+      instructions = (refl, refl, refl, refl, refl, refl, refl, refl, refl, refl, refl);
+      set = (refl, refl, refl, refl);
+      copy = refl;
+      add = (refl, refl, refl);
+      less = (refl, refl, refl, refl, refl, refl);
+      equal = (refl, refl, refl, refl, refl, refl, refl);
+      both = (refl, refl, refl, refl, refl);
+      moveif = (refl, refl, refl, refl, refl);
+      open-keeps = refl;
+      column = (refl, refl, refl, refl, refl, refl, refl, refl);
+      charges = (refl, refl, refl);
+      published = (refl, refl, refl, refl, refl);
+      log = (refl, refl);
+      order = refl;
+      without = (refl, refl, refl);
+      first-word = (refl, refl, refl);
+      later-words = refl;
+      passed-over = (refl, refl, refl);
+      ended = (refl, refl, refl, refl, refl, refl);
+      not-ended = (refl, refl);
+      admitted = (refl, refl, refl, refl, refl, refl, refl, refl, refl);
+    }

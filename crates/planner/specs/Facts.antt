@@ -1,0 +1,98 @@
+-- Document 01, "Who caused it", as facts about literal numbers and words: the refusals' numbers and places, their order in a header, and what
+-- writing a plan answers and leaves. Rests on the definitions alone.
+use mathlib.Core.Path.{_≡_}
+use mathlib.Core.List.{List, [], _∷_}
+use mathlib.Core.Option.{Option, none, some}
+use Prim.Native.Nat.{ℕ}
+use lib.ListN.{length, replicate}
+use Rattle.plans.specs.Plan.{headerOf}
+use Rattle.planner.specs.declared.Refusal.{Refusal}
+use Rattle.planner.specs.declared.Refusal.the-variants.{Method, Vertices, Edges, Source, Words, Cells, Log, Results, Operation, Edge, Weight}
+use Rattle.planner.specs.Refusal.{Told, number, refused, headerRefusal}
+use Rattle.planner.specs.Written.{planRefusal, planWords, answerOf, bufferOf}
+
+-- A refusal that tells its number alone, and one that tells its place too.
+abbrev pub byNumber : (number : ℕ) → Told
+byNumber k = record { number = k; place = none; values = [] }
+
+abbrev pub atPlace : (number place : ℕ) → Told
+atPlace k place = record { number = k; place = some place; values = [] }
+
+-- The number that a header word meets, 0 where it meets none.
+abbrev pub numberMet : Option Refusal → ℕ
+numberMet none = 0
+numberMet (some r) = number r
+
+abbrev pub headerMeets : (word : ℕ) → ℕ
+headerMeets w = numberMet (headerRefusal (headerOf w))
+
+-- What writing a plan answers, and the buffer that it leaves.
+abbrev pub writingAnswered : (header buffer : List ℕ) → Told
+writingAnswered header buffer = answerOf (planRefusal header (length buffer)) (planWords header)
+
+abbrev pub bufferLeft : (header buffer : List ℕ) → List ℕ
+bufferLeft header buffer = bufferOf (planRefusal header (length buffer)) (planWords header) buffer
+
+pub record Facts : Type 0 where
+  -- "The desk that sends the public part": header missing or method, n, m, source, words after the header.
+  pub desk : (refused Method ≡ byNumber 1)
+      × (refused Vertices ≡ byNumber 2)
+      × (refused Edges ≡ byNumber 3)
+      × (refused Source ≡ byNumber 4)
+      × (refused Words ≡ byNumber 5)
+  -- "The host that lends buffers": cells, log, results.
+  pub host : (refused Cells ≡ byNumber 6) × (refused Log ≡ byNumber 7) × (refused Results ≡ byNumber 8)
+  -- "The sender of a foreign plan", with place.
+  pub sender : refused (Operation 5) ≡ atPlace 9 5
+  -- "A carrier", with place: yards and spare bits, price.
+  pub carrier : (refused (Edge 5) ≡ atPlace 10 5) × (refused (Weight 5) ≡ atPlace 11 5)
+  -- "n is 1 to 32, m is 0 to 128", m is 0 in method 2, the source is below n: headers at the ends, and one past each.
+  pub ends : (headerMeets 0x1000010000000000 ≡ 0)
+      × (headerMeets 0x100020000800001F ≡ 0)
+      × (headerMeets 0x2000010000000000 ≡ 0)
+      × (headerMeets 0x200020000000001F ≡ 0)
+      × (headerMeets 0x0000010000000000 ≡ 1)
+      × (headerMeets 0x3000010000000000 ≡ 1)
+      × (headerMeets 0xF000010000000000 ≡ 1)
+      × (headerMeets 0x1000000000000000 ≡ 2)
+      × (headerMeets 0x1000210000000000 ≡ 2)
+      × (headerMeets 0x1000200008100000 ≡ 3)
+      × (headerMeets 0x2000200000100000 ≡ 3)
+      × (headerMeets 0x1000200008000020 ≡ 4)
+      × (headerMeets 0x2000200000000020 ≡ 4)
+  -- "Order: 1 to 8 by number": headers that would meet two neighbours, or all four, meet the lower.
+  pub order : (headerMeets 0x0000000008100000 ≡ 1)
+      × (headerMeets 0x0000000000000000 ≡ 1)
+      × (headerMeets 0x3000210000000000 ≡ 1)
+      × (headerMeets 0x1000000008100000 ≡ 2)
+      × (headerMeets 0x1000210008100000 ≡ 2)
+      × (headerMeets 0x2000000000100000 ≡ 2)
+      × (headerMeets 0x1000010008100001 ≡ 3)
+      × (headerMeets 0x2000010000100001 ≡ 3)
+  -- "Writing a plan can meet 1 to 4 and 7": 1 without a header word; 1 to 4 before 7, here of an empty buffer, which stays.
+  pub writing-first : (writingAnswered [] [] ≡ byNumber 1)
+      × (writingAnswered (0x0000010000000000 ∷ []) [] ≡ byNumber 1)
+      × (writingAnswered (0x1000210000000000 ∷ []) [] ≡ byNumber 2)
+      × (writingAnswered (0x1000010008100000 ∷ []) [] ≡ byNumber 3)
+      × (writingAnswered (0x1000010000000001 ∷ []) [] ≡ byNumber 4)
+      × (writingAnswered (0x1000010000000000 ∷ []) [] ≡ byNumber 7)
+  -- 7 one word short of the plan. A refusal "changes no lent buffer".
+  pub writing-short : (writingAnswered (0x1000010000000000 ∷ []) (replicate 6 9) ≡ byNumber 7)
+      × (bufferLeft (0x1000010000000000 ∷ []) (replicate 6 9) ≡ replicate 6 9)
+      × (writingAnswered (0x2000010000000000 ∷ []) (replicate 20 9) ≡ byNumber 7)
+      × (bufferLeft (0x3000010000000000 ∷ []) (replicate 20 9) ≡ replicate 20 9)
+  -- "and answers its length": a buffer that has room for it, and more. The rest of it stays; a second header word is not looked at.
+  pub writing : (writingAnswered (0x1000010000000000 ∷ []) (replicate 7 9) ≡ record { number = 0; place = none; values = 7 ∷ [] })
+      × (writingAnswered (0x2000010000000000 ∷ []) (replicate 21 9) ≡ record { number = 0; place = none; values = 21 ∷ [] })
+      × (writingAnswered (0x1000010000000000 ∷ 0 ∷ []) (replicate 9 9) ≡ record { number = 0; place = none; values = 7 ∷ [] })
+      × (bufferLeft (0x1000010000000000 ∷ 0 ∷ []) (replicate 9 9)
+      ≡ 0x1000010000000000
+      ∷ 0x0000020000000000
+      ∷ 0x0000000000000000
+      ∷ 0x000001FFFFFFFFFF
+      ∷ 0x0000034000000000
+      ∷ 0x00000A0000000000
+      ∷ 0x7000000000A00000
+      ∷ 9
+      ∷ 9
+      ∷ [])

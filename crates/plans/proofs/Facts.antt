@@ -1,0 +1,66 @@
+-- The table of specs/Facts, by computing the definitions. Rests on the definitions alone else.
+use mathlib.Core.Path.{refl}
+use native.Mathlib.Omega.{arith}
+use Rattle.fields.specs.Fields.{bitsOf}
+use Rattle.machine.specs.Word.{packed, packedSet}
+use Rattle.plans.specs.Blocks.{flat}
+use Rattle.plans.specs.Method1 as Method1
+use Rattle.plans.specs.Method2 as Method2
+use Rattle.plans.specs.Plan.{headerOf, Accepted, instructionsOf, planOf, cellsOf}
+use Rattle.plans.specs.Facts.{Facts}
+
+pub facts : Facts
+unfolding bitsOf packed packedSet flat Method1.opening Method1.gather Method1.relax Method1.check Method1.pass Method1.plan Method2.opening Method2.fetch Method2.turn Method2.plan instructionsOf planOf cellsOf
+facts =
+    record {
+      far-is = refl;
+      header-fields = (refl, refl, refl);
+      least1 =
+          record {
+            method-some = omega arith;
+            method-known = omega arith;
+            vertices-some = omega arith;
+            vertices-few = omega arith;
+            edges-few = omega arith;
+            source-there = omega arith;
+          };
+      most1 =
+          record {
+            method-some = omega arith;
+            method-known = omega arith;
+            vertices-some = omega arith;
+            vertices-few = omega arith;
+            edges-few = omega arith;
+            source-there = omega arith;
+          };
+      least2 =
+          record {
+            method-some = omega arith;
+            method-known = omega arith;
+            vertices-some = omega arith;
+            vertices-few = omega arith;
+            edges-few = omega arith;
+            source-there = omega arith;
+          };
+      most2 =
+          record {
+            method-some = omega arith;
+            method-known = omega arith;
+            vertices-some = omega arith;
+            vertices-few = omega arith;
+            edges-few = omega arith;
+            source-there = omega arith;
+          };
+      method0 = λ (a : Accepted (headerOf 0x0000010000000000)). omega arith;
+      method3 = λ (a : Accepted (headerOf 0x3000010000000000)). omega arith;
+      vertices0 = λ (a : Accepted (headerOf 0x1000000000000000)). omega arith;
+      vertices33 = λ (a : Accepted (headerOf 0x1000210000000000)). omega arith;
+      edges129 = λ (a : Accepted (headerOf 0x1000010008100000)). omega arith;
+      edges1 = λ (a : Accepted (headerOf 0x2000010000100000)). omega arith;
+      source-past1 = λ (a : Accepted (headerOf 0x1000200008000020)). omega arith;
+      source-past2 = λ (a : Accepted (headerOf 0x2000010000000001)). omega arith;
+      weights = (refl, refl, refl);
+      cells = (refl, refl, refl, refl);
+      plan1 = refl;
+      plan2 = refl;
+    }

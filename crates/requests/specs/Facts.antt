@@ -1,0 +1,114 @@
+-- Document 01, "Request words" and "Who caused it", as facts about literal requests and buffer lengths: limits at their ends and one past them,
+-- which of two refusals comes first, and the starting cells. Rests on the definitions alone.
+use mathlib.Core.Path.{_≡_}
+use mathlib.Core.List.{List, [], _∷_, _++_}
+use mathlib.Core.Option.{Option, none, some}
+use Prim.Native.Nat.{ℕ}
+use lib.IntN.{pos, negsuc}
+use lib.ListN.{replicate}
+use Rattle.plans.specs.Plan.{headerOf}
+use Rattle.planner.specs.declared.Refusal.{Refusal}
+use Rattle.planner.specs.Refusal.{Told, refused}
+use Rattle.planner.specs.Facts.{byNumber, atPlace}
+use Rattle.requests.specs.Refusal.{wordCountOf, logLengthOf, requestRefusal}
+use Rattle.requests.specs.Intake.{startingCells, distanceCell, parentCell}
+
+-- What a check tells; 0 where it lets a request pass.
+abbrev pub noRefusal : Told
+noRefusal = byNumber 0
+
+abbrev pub met : Option Refusal → Told
+met none = noRefusal
+met (some r) = refused r
+
+-- A request with buffers of these lengths: cells, log, distances, parents.
+abbrev pub tried : (request : List ℕ) (cells log distances parents : ℕ) → Told
+tried request cells log distances parents = met (requestRefusal request cells log distances parents)
+
+-- Method 1, n = 2, source 0, of one edge; method 2, n = 1: with buffers just long enough.
+abbrev pub edge : (word : ℕ) → Told
+edge w = tried (0x1000020000100000 ∷ w ∷ []) 17 48 2 2
+
+abbrev pub entry : (word : ℕ) → Told
+entry w = tried (0x2000010000000000 ∷ w ∷ []) 12 21 1 1
+
+pub record Facts : Type 0 where
+  -- "from 8, to 8, spare 16 (zero), price 32": 10 for "a yard not below n", and for a spare bit: lowest, highest, in the middle.
+  pub vertices : (edge 0x0000000000000000 ≡ noRefusal)
+      × (edge 0x0101000000000000 ≡ noRefusal)
+      × (edge 0x0200000000000000 ≡ atPlace 10 0)
+      × (edge 0x0002000000000000 ≡ atPlace 10 0)
+      × (edge 0x8000000000000000 ≡ atPlace 10 0)
+      × (edge 0x0080000000000000 ≡ atPlace 10 0)
+  pub spare1 : (edge 0x0000000100000000 ≡ atPlace 10 0) × (edge 0x0000800000000000 ≡ atPlace 10 0) × (edge 0x0000018000000000 ≡ atPlace 10 0)
+  -- "spare 32 (zero), price 32"
+  pub spare2 : (entry 0x0000000100000000 ≡ atPlace 10 0) × (entry 0x8000000000000000 ≡ atPlace 10 0) × (entry 0x0001800000000000 ≡ atPlace 10 0)
+  -- 11 for "price outside its range": "-1,000,000 to 1,000,000 in method 1", "in two's complement".
+  pub weights1 : (edge 0x00000000FFF0BDC0 ≡ noRefusal)
+      × (edge 0x00000000FFF0BDBF ≡ atPlace 11 0)
+      × (edge 0x00000000000F4240 ≡ noRefusal)
+      × (edge 0x00000000000F4241 ≡ atPlace 11 0)
+      × (edge 0x0000000080000000 ≡ atPlace 11 0)
+      × (edge 0x000000007FFFFFFF ≡ atPlace 11 0)
+  -- "0 to 1,000,000 or -1 in method 2"
+  pub weights2 : (entry 0x00000000FFFFFFFF ≡ noRefusal)
+      × (entry 0x00000000FFFFFFFE ≡ atPlace 11 0)
+      × (entry 0x0000000000000000 ≡ noRefusal)
+      × (entry 0x00000000000F4240 ≡ noRefusal)
+      × (entry 0x00000000000F4241 ≡ atPlace 11 0)
+  -- "words after the header are not m, or not n² in method 2": one less and one more than asked.
+  pub words : (tried (0x1000020000100000 ∷ []) 17 48 2 2 ≡ byNumber 5)
+      × (tried (0x1000020000100000 ∷ 0 ∷ 0 ∷ []) 17 48 2 2 ≡ byNumber 5)
+      × (tried (0x2000020000000000 ∷ 0 ∷ 0 ∷ 0 ∷ []) 20 67 2 2 ≡ byNumber 5)
+      × (tried (0x2000020000000000 ∷ 0 ∷ 0 ∷ 0 ∷ 0 ∷ []) 20 67 2 2 ≡ noRefusal)
+      × (tried (0x2000020000000000 ∷ 0 ∷ 0 ∷ 0 ∷ 0 ∷ 0 ∷ []) 20 67 2 2 ≡ byNumber 5)
+      × (wordCountOf (headerOf 0x100020000800001F) ≡ 128)
+      × (wordCountOf (headerOf 0x200020000000001F) ≡ 1024)
+  -- "too few cells", "log .. too short", "a results buffer shorter than n": one less than asked, and longer ones.
+  pub sizes1 : (tried (0x1000020000100000 ∷ 0 ∷ []) 16 48 2 2 ≡ byNumber 6)
+      × (tried (0x1000020000100000 ∷ 0 ∷ []) 17 47 2 2 ≡ byNumber 7)
+      × (tried (0x1000020000100000 ∷ 0 ∷ []) 17 48 1 2 ≡ byNumber 8)
+      × (tried (0x1000020000100000 ∷ 0 ∷ []) 17 48 2 1 ≡ byNumber 8)
+      × (tried (0x1000020000100000 ∷ 0 ∷ []) 18 49 3 3 ≡ noRefusal)
+  pub sizes2 : (tried (0x2000010000000000 ∷ 0 ∷ []) 11 21 1 1 ≡ byNumber 6)
+      × (tried (0x2000010000000000 ∷ 0 ∷ []) 12 20 1 1 ≡ byNumber 7)
+      × (tried (0x2000010000000000 ∷ 0 ∷ []) 12 21 0 1 ≡ byNumber 8)
+      × (tried (0x2000010000000000 ∷ 0 ∷ []) 12 21 1 0 ≡ byNumber 8)
+      × (tried (0x2000010000000000 ∷ 0 ∷ []) 13 22 2 2 ≡ noRefusal)
+  -- Method 1's "log is one word longer" than its plan, at the limits; method 2's is not.
+  pub logs : (logLengthOf (headerOf 0x100020000800001F) ≡ 1060837) × (logLengthOf (headerOf 0x200020000000001F) ≡ 44227)
+  -- "Order: 1 to 8 by number, then input words": requests that would meet two neighbours, or all, meet the lower.
+  pub order : (tried [] 0 0 0 0 ≡ byNumber 1)
+      × (tried (0x3000210008100021 ∷ []) 0 0 0 0 ≡ byNumber 1)
+      × (tried (0x1000210008100021 ∷ []) 0 0 0 0 ≡ byNumber 2)
+      × (tried (0x1000020008100002 ∷ []) 0 0 0 0 ≡ byNumber 3)
+      × (tried (0x1000020000100002 ∷ []) 17 48 2 2 ≡ byNumber 4)
+      × (tried (0x1000020000100000 ∷ []) 16 48 2 2 ≡ byNumber 5)
+      × (tried (0x1000020000100000 ∷ 0 ∷ []) 16 47 2 2 ≡ byNumber 6)
+      × (tried (0x1000020000100000 ∷ 0 ∷ []) 17 47 1 2 ≡ byNumber 7)
+      × (tried (0x1000020000100000 ∷ 0x0200000000000000 ∷ []) 17 48 2 1 ≡ byNumber 8)
+      × (tried (0x1000020000100000 ∷ 0x00000000000F4241 ∷ []) 17 48 1 2 ≡ byNumber 8)
+  -- "upward from place 0, 10 before 11 in each"; "places count from the word after the header".
+  pub places : (edge 0x02000000000F4241 ≡ atPlace 10 0)
+      × (edge 0x00020000000F4241 ≡ atPlace 10 0)
+      × (edge 0x00000001000F4241 ≡ atPlace 10 0)
+      × (entry 0x00000001000F4241 ≡ atPlace 10 0)
+      × (tried (0x1000020000200000 ∷ 0x00000000000F4241 ∷ 0x0200000000000000 ∷ []) 20 85 2 2 ≡ atPlace 11 0)
+      × (tried (0x1000020000200000 ∷ 0 ∷ 0x0200000000000000 ∷ []) 20 85 2 2 ≡ atPlace 10 1)
+      × (tried (0x1000020000200000 ∷ 0 ∷ 0x00000000000F4241 ∷ []) 20 85 2 2 ≡ atPlace 11 1)
+      × (tried (0x2000020000000000 ∷ 0 ∷ 0 ∷ 0 ∷ 0x00000000FFFFFFFE ∷ []) 20 67 2 2 ≡ atPlace 11 3)
+  -- "Intake fills the first 3m; the rest start at 0": lanes 1 to 0 at -5 and 0 to 1 at 1,000,000 laid into 22 lent cells, two more than needed.
+  pub start1 : startingCells (headerOf 0x1000020000200000) (0x01000000FFFFFFFB ∷ 0x00010000000F4240 ∷ []) (replicate 22 (pos 9))
+      ≡ (pos 1 ∷ pos 0 ∷ pos 0 ∷ pos 1 ∷ negsuc 4 ∷ pos 1000000 ∷ []) ++ replicate 14 (pos 0) ++ (pos 9 ∷ pos 9 ∷ [])
+  -- "Intake writes the prices to U, FAR for -1; the rest start at 0."
+  pub start2 : startingCells (headerOf 0x2000020000000000) (0 ∷ 0x00000000FFFFFFFF ∷ 0x00000000000F4240 ∷ 7 ∷ []) (replicate 22 (pos 9))
+      ≡ (pos 0 ∷ pos 274877906944 ∷ pos 1000000 ∷ pos 7 ∷ []) ++ replicate 16 (pos 0) ++ (pos 9 ∷ pos 9 ∷ [])
+  -- "Results .. are copies of cells the run left .. D+v and P+v": the cells of the last of two yards, and of the last of the most.
+  pub results : (distanceCell (headerOf 0x1000020000200000) 1 ≡ 7)
+      × (parentCell (headerOf 0x1000020000200000) 1 ≡ 9)
+      × (distanceCell (headerOf 0x2000020000000000) 1 ≡ 5)
+      × (parentCell (headerOf 0x2000020000000000) 1 ≡ 7)
+      × (distanceCell (headerOf 0x100020000800001F) 31 ≡ 415)
+      × (parentCell (headerOf 0x100020000800001F) 31 ≡ 447)
+      × (distanceCell (headerOf 0x200020000000001F) 31 ≡ 1055)
+      × (parentCell (headerOf 0x200020000000001F) 31 ≡ 1087)
