@@ -1,4 +1,4 @@
-/* The engine's three calls, for C: proved in Rattle (crates/exports), linked from libexports.a. docs/CALLING.md says it in full.
+/* The engine's four calls, for C: proved in Rattle (crates/exports), linked from libexports.a. docs/CALLING.md says it in full.
  *
  * What is asked of the caller, since C can't show it: no pointer is null, even where its length is 0; each is aligned for its
  * element type; each buffer has at least as many elements as its length says; no two buffers overlap; and until the call
@@ -12,13 +12,16 @@
 
 /* The places of an answer's six numbers. */
 enum {
-    VUKSTAJA_NUMBER = 0,     /* 0: done; 12: a loss circle, after a run; else the refusal's number */
-    VUKSTAJA_HAS_PLACE = 1,  /* 1 where there is a place (refusals 9, 10 and 11), else 0 */
-    VUKSTAJA_PLACE = 2,      /* the place, else 0 */
-    VUKSTAJA_ROUNDS = 3,     /* of a run */
-    VUKSTAJA_LOG_LENGTH = 4, /* of a run */
-    VUKSTAJA_VERDICT = 5,    /* of a request's run */
-    VUKSTAJA_PLAN_LENGTH = 3 /* of a written plan */
+    VUKSTAJA_NUMBER = 0,      /* 0: done; 12: a loss circle, after a run; else the refusal's number */
+    VUKSTAJA_HAS_PLACE = 1,   /* 1 where there is a place (refusals 9, 10 and 11), else 0 */
+    VUKSTAJA_PLACE = 2,       /* the place, else 0 */
+    VUKSTAJA_ROUNDS = 3,      /* of a run */
+    VUKSTAJA_LOG_LENGTH = 4,  /* of a run */
+    VUKSTAJA_VERDICT = 5,     /* of a request's run */
+    VUKSTAJA_PLAN_LENGTH = 3, /* of a written plan */
+    VUKSTAJA_CELLS = 3,       /* of the sizes: cells */
+    VUKSTAJA_LOG = 4,         /* words of the log, which are enough for the plan too */
+    VUKSTAJA_RESULTS = 5      /* places of distances, and of parents */
 };
 
 typedef uint64_t vukstaja_answer[6];
@@ -45,6 +48,10 @@ void vukstaja_run_plan(const uint64_t *plan, size_t plan_length,
 void vukstaja_write_plan(const uint64_t *header, size_t header_length,
                          uint64_t *plan, size_t plan_length,
                          vukstaja_answer *answer);
+
+/* Tells the lengths of the buffers that a header, whose first word alone is looked at, asks for; with any number but 0, nothing. */
+void vukstaja_sizes(const uint64_t *header, size_t header_length,
+                    vukstaja_answer *answer);
 
 #ifdef __cplusplus
 }

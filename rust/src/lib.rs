@@ -22,8 +22,6 @@ pub const UNREACHED: i64 = 1 << 38;
 /// The parent of the source and of unreached vertices.
 pub const NO_PARENT: i64 = -1;
 
-const MAX_VERTICES: u32 = 32;
-const MAX_EDGES: u32 = 128;
 const FIELD_BITS: u32 = 20;
 const FIELD_MAX: u32 = (1 << FIELD_BITS) - 1;
 const NEGATIVE_CYCLE: u64 = 12;
@@ -58,6 +56,7 @@ extern "C" {
         plan_len: usize,
         answer: *mut [u64; 6],
     );
+    fn vukstaja_sizes(header: *const u64, header_len: usize, answer: *mut [u64; 6]);
 }
 
 /// How a request gives its graph, and which plan answers it.
@@ -79,22 +78,20 @@ pub struct Header {
 }
 
 impl Header {
-    /// Reads a header word; `None` if the library would refuse its method,
-    /// vertices or number of edges, so that its lengths mean nothing.
+    /// Reads a header word; `None` if its method is not 1 or 2. Whether the
+    /// library accepts the rest, [`sizes`] tells.
     pub fn from_word(word: u64) -> Option<Header> {
         let method = match word >> (3 * FIELD_BITS) {
             1 => Method::BellmanFord,
             2 => Method::Dijkstra,
             _ => return None,
         };
-        let header = Header {
+        Some(Header {
             method,
             vertices: (word >> (2 * FIELD_BITS)) as u32 & FIELD_MAX,
             edges: (word >> FIELD_BITS) as u32 & FIELD_MAX,
             source: word as u32 & FIELD_MAX,
-        };
-        let in_range = (1..=MAX_VERTICES).contains(&header.vertices) && header.edges <= MAX_EDGES;
-        in_range.then_some(header)
+        })
     }
 
     /// The header as a request's first word.
@@ -104,42 +101,21 @@ impl Header {
             | field(self.edges) << FIELD_BITS
             | field(self.source)
     }
-
-    /// The number of cells a run needs.
-    pub fn cells(&self) -> usize {
-        let (n, m) = self.sizes();
-        match self.method {
-            Method::BellmanFord => 3 * m + 3 * n + 8,
-            Method::Dijkstra => n * n + 5 * n + 6,
-        }
-    }
-
-    /// The number of words of the plan, its header included.
-    pub fn plan_length(&self) -> usize {
-        let (n, m) = self.sizes();
-        match self.method {
-            // Saturating, because a header without vertices has no plan to measure.
-            Method::BellmanFord => 3 * n + 4 + m * (8 * n * n + 3 * n).saturating_sub(1),
-            Method::Dijkstra => n * n * n + 11 * n * n + 6 * n + 3,
-        }
-    }
-
-    /// The number of words of a run's log: method 1 publishes one cell.
-    pub fn log_length(&self) -> usize {
-        match self.method {
-            Method::BellmanFord => self.plan_length() + 1,
-            Method::Dijkstra => self.plan_length(),
-        }
-    }
-
-    fn sizes(&self) -> (usize, usize) {
-        (field(self.vertices) as usize, field(self.edges) as usize)
-    }
 }
 
 /// Saturates, so that a number too large for its field is still refused.
 fn field(number: u32) -> u64 {
     u64::from(number.min(FIELD_MAX))
+}
+
+/// The lengths of the buffers that a request's header asks for.
+#[derive(Clone, Copy, Debug, PartialEq, Eq)]
+pub struct Sizes {
+    pub cells: usize,
+    /// Words of the log; the plan has no more.
+    pub log: usize,
+    /// Places of distances, and of parents.
+    pub results: usize,
 }
 
 /// What a request's run tells beside its buffers.
@@ -301,17 +277,33 @@ pub fn write_plan(header: &[u64], plan: &mut [u64]) -> Result<u64, Refusal> {
     }
 }
 
+/// Tells what a header, the first word given, asks a caller to lend.
+pub fn sizes(header: &[u64]) -> Result<Sizes, Refusal> {
+    let mut answer = [0; 6];
+    // SAFETY: the pointer and length come from one live slice, never null,
+    // and the library does not keep it.
+    unsafe {
+        vukstaja_sizes(header.as_ptr(), header.len(), &mut answer);
+    }
+    let [number, _, _, cells, log, results] = answer;
+    match number {
+        0 => Ok(Sizes {
+            cells: cells as usize,
+            log: log as usize,
+            results: results as usize,
+        }),
+        _ => Err(refusal(&answer)),
+    }
+}
+
 /// Runs a request in buffers of the lengths its header asks for.
 pub fn solve(request: &[u64]) -> Result<Routes, Refusal> {
-    // A header without lengths is refused before any buffer is looked at.
-    let Some(header) = request.first().copied().and_then(Header::from_word) else {
-        return Err(refused_header(request));
-    };
-    let vertices = header.vertices as usize;
-    let mut cells = vec![0; header.cells()];
-    let mut log = vec![0; header.log_length()];
-    let mut distances = vec![0; vertices];
-    let mut parents = vec![0; vertices];
+    let sizes = sizes(request)?;
+    let header = Header::from_word(request[0]).expect("a header with sizes has a method");
+    let mut cells = vec![0; sizes.cells];
+    let mut log = vec![0; sizes.log];
+    let mut distances = vec![0; sizes.results];
+    let mut parents = vec![0; sizes.results];
     match run(request, &mut cells, &mut log, &mut distances, &mut parents) {
         Answer::Ran(report) => Ok(Routes {
             header,
@@ -325,14 +317,6 @@ pub fn solve(request: &[u64]) -> Result<Routes, Refusal> {
             place: None,
         }),
         Answer::Refused(refusal) => Err(refusal),
-    }
-}
-
-/// The library names the fault; it does so without any buffer.
-fn refused_header(request: &[u64]) -> Refusal {
-    match write_plan(request, &mut []) {
-        Err(refusal) => refusal,
-        Ok(_) => unreachable!("no plan is written into an empty buffer"),
     }
 }
 

@@ -233,7 +233,6 @@ fn oversized_headers_are_refused() {
         source: u32::MAX,
     };
     assert_eq!(number(&[header.word()]), (2, None));
-    assert!(header.plan_length() > header.cells());
 }
 
 fn compare_plan(plan: &[u64], cells: Vec<i64>, log: Vec<u64>) -> Outcome {
@@ -351,11 +350,39 @@ fn written_plans_have_the_stated_lengths() {
         let word = header.word();
         assert_eq!(Header::from_word(word), Some(header));
         let plan = reference::plan_words(word);
-        assert_eq!(header.plan_length(), plan.len());
-        assert_eq!(header.log_length(), reference::log_length(&plan));
+        assert_eq!(compare_sizes(&[word]).number, 0);
         let outcome = compare_written(&[word], vec![7; plan.len() + 2]);
         assert_eq!(outcome.values[0], plan.len() as u64);
         assert_eq!(compare_written(&[word], vec![7; plan.len() - 1]).number, 7);
+    }
+}
+
+fn compare_sizes(header: &[u64]) -> Outcome {
+    let outcome = match vukstaja::sizes(header) {
+        Ok(sizes) => ran(0, [sizes.cells, sizes.log, sizes.results].map(|x| x as u64)),
+        Err(refusal) => refused(refusal),
+    };
+    assert_eq!(outcome, reference::sizes(header), "{header:x?}");
+    outcome
+}
+
+#[test]
+fn sizes_of_headers() {
+    let mut random = Random::new(SEED + 8);
+    let mut seen = [0; 5];
+    for _ in 0..20_000 {
+        let mut request = small_request(&mut random);
+        let mut unused = buffers(&mut random, request[0]);
+        for _ in 0..random.below(4) {
+            damage(&mut random, &mut request, &mut unused);
+        }
+        seen[compare_sizes(&request).number as usize] += 1;
+    }
+    println!("20000 headers' sizes, by number: {seen:?}");
+    assert!(seen.iter().all(|&count| count > 100), "{seen:?}");
+    let most = [(1, 128, [488, 1_060_837, 32]), (2, 0, [1190, 44_227, 32])];
+    for (method, m, sizes) in most {
+        assert_eq!(compare_sizes(&[pack(method, 32, m, 31)]), ran(0, sizes));
     }
 }
 

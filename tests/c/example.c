@@ -1,10 +1,16 @@
-/* The three calls from C: the printed request of the rules, its plan, the plan run from outside, and a refusal. */
+/* The four calls from C: the printed request of the rules, its sizes, its plan, the plan run from outside, and refusals. */
 #include <inttypes.h>
 #include <stdio.h>
+#include <stdlib.h>
 
 #include "vukstaja.h"
 
-enum { VERTICES = 2, CELLS = 17, PLAN = 47, LOG = 48 };
+/* What a run is lent. */
+struct buffers {
+    size_t cells_length, log_length, results_length;
+    int64_t *cells, *distances, *parents;
+    uint64_t *log;
+};
 
 static void print_answer(const char *call, const vukstaja_answer answer)
 {
@@ -14,40 +20,94 @@ static void print_answer(const char *call, const vukstaja_answer answer)
     printf("\n");
 }
 
+/* As many zeros of eight bytes each. */
+static void *zeros(size_t count)
+{
+    void *made = calloc(count, 8);
+    if (made == NULL) {
+        fprintf(stderr, "no memory for %zu numbers\n", count);
+        exit(1);
+    }
+    return made;
+}
+
+/* Buffers of the lengths that a header asks for. */
+static struct buffers made_for(uint64_t header)
+{
+    vukstaja_answer sizes;
+    vukstaja_sizes(&header, 1, &sizes);
+    print_answer("sizes", sizes);
+    if (sizes[VUKSTAJA_NUMBER] != 0)
+        exit(1);
+    return (struct buffers){
+        .cells_length = sizes[VUKSTAJA_CELLS],
+        .log_length = sizes[VUKSTAJA_LOG],
+        .results_length = sizes[VUKSTAJA_RESULTS],
+        .cells = zeros(sizes[VUKSTAJA_CELLS]),
+        .log = zeros(sizes[VUKSTAJA_LOG]),
+        .distances = zeros(sizes[VUKSTAJA_RESULTS]),
+        .parents = zeros(sizes[VUKSTAJA_RESULTS]),
+    };
+}
+
+static void give_back(struct buffers *lent)
+{
+    free(lent->cells);
+    free(lent->log);
+    free(lent->distances);
+    free(lent->parents);
+}
+
+static void run(const uint64_t *request, size_t length, struct buffers *lent, vukstaja_answer *answer)
+{
+    vukstaja_run(request, length, lent->cells, lent->cells_length, lent->log, lent->log_length,
+                 lent->distances, lent->results_length, lent->parents, lent->results_length, answer);
+}
+
 static void run_request(void)
 {
     const uint64_t request[] = {0x1000020000100000, 0x00010000FFFFFFFB};
-    int64_t cells[CELLS], distances[VERTICES], parents[VERTICES];
-    uint64_t log[LOG];
+    struct buffers lent = made_for(request[0]);
     vukstaja_answer answer;
-    vukstaja_run(request, 2, cells, CELLS, log, LOG, distances, VERTICES, parents, VERTICES, &answer);
+    run(request, 2, &lent, &answer);
     print_answer("run", answer);
-    for (int v = 0; v < VERTICES; v++)
-        printf("%d %" PRId64 " %" PRId64 "\n", v, distances[v], parents[v]);
+    for (size_t v = 0; v < lent.results_length; v++)
+        printf("%zu %" PRId64 " %" PRId64 "\n", v, lent.distances[v], lent.parents[v]);
+    give_back(&lent);
 }
 
 /* The plan's own cells hold the edge of the printed request: from 0, to 1, weight -5. */
 static void run_written_plan(void)
 {
     const uint64_t header[] = {0x1000020000100000};
-    uint64_t plan[PLAN], log[LOG];
-    int64_t cells[CELLS] = {0, 1, -5};
+    struct buffers lent = made_for(header[0]);
+    uint64_t *plan = zeros(lent.log_length);
     vukstaja_answer answer;
-    vukstaja_write_plan(header, 1, plan, PLAN, &answer);
+    vukstaja_write_plan(header, 1, plan, lent.log_length, &answer);
     print_answer("write_plan", answer);
-    vukstaja_run_plan(plan, PLAN, cells, CELLS, log, LOG, &answer);
+    lent.cells[1] = 1;
+    lent.cells[2] = -5;
+    vukstaja_run_plan(plan, answer[VUKSTAJA_PLAN_LENGTH], lent.cells, lent.cells_length,
+                      lent.log, lent.log_length, &answer);
     print_answer("run_plan", answer);
-    printf("distance of 1: %" PRId64 "\n", cells[4]);
+    printf("distance of 1: %" PRId64 "\n", lent.cells[4]);
+    free(plan);
+    give_back(&lent);
 }
 
 static void be_refused(void)
 {
-    const uint64_t request[] = {0x1000010000100000, 0x00000000000F4241};
-    int64_t cells[14], distances[1], parents[1];
-    uint64_t log[18];
+    const uint64_t request[] = {0x1000010000100000, 0x00000000000F4241}, unknown[] = {0x3000010000000000};
+    struct buffers lent = made_for(request[0]);
     vukstaja_answer answer;
-    vukstaja_run(request, 2, cells, 14, log, 18, distances, 1, parents, 1, &answer);
+    run(request, 2, &lent, &answer);
     print_answer("a weight of 1,000,001", answer);
+    lent.log_length -= 1;
+    run(request, 2, &lent, &answer);
+    print_answer("a log one word short", answer);
+    vukstaja_sizes(unknown, 1, &answer);
+    print_answer("sizes of method 3", answer);
+    give_back(&lent);
 }
 
 int main(void)

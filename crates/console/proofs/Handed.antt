@@ -12,8 +12,8 @@ use lib.ListN.{length, getD, drop, take, replicate, length-append, length-drop, 
 use lib.Seq.{getD-take}
 use borrow.Author.Tests.{lt-ltb, le-ltb, eq-eqb, ne-eqb}
 use Rattle.text.proofs.Arrays.{counted}
+use Rattle.answers.specs.Buffers.{overwritten}
 use Rattle.plans.proofs.Blocks.{ones-length, ones-at}
-use Rattle.planner.specs.Written.{overwritten}
 use Rattle.console.specs.Bytes.{wordAt, tooMany, wholeCount, wholeWords, handedOver, requestOf}
 
 -- ---- how many, by the tests

@@ -11,15 +11,15 @@ use lib.ListN.{length, getD, take, drop, replicate, List·getD-append}
 use lib.Seq.{take-all, getD-take, length-take-le}
 use borrow.Author.Tests.{ne-eqb}
 use Rattle.fields.specs.Fields.{joinOf}
+use Rattle.answers.specs.declared.Refusal.{Refusal}
+use Rattle.answers.specs.Refusal.{Words, orElse}
+use Rattle.answers.specs.Buffers.{overwritten}
 use Rattle.plans.specs.declared.Header.{Header}
 use Rattle.plans.specs.Plan.{Accepted, headerOf}
 use Rattle.plans.specs.Blocks.{flat}
 use Rattle.plans.proofs.Bounds.{square-le}
 use Rattle.plans.proofs.Headers.{by-method}
-use Rattle.planner.specs.declared.Refusal.{Refusal}
-use Rattle.planner.specs.declared.Refusal.the-variants.{Words}
 use Rattle.planner.specs.Refusal.{headerRefusal}
-use Rattle.planner.specs.Written.{orElse, overwritten}
 use Rattle.planner.proofs.Headers.{accepted}
 use Rattle.requests.specs.Refusal.{wordCountOf, sizesRefusal, requestRefusal}
 use Rattle.console.specs.Bytes.{joinedFrom, wordAt, tooMany, wholeCount, wholeWords, handedOver, requestOf}

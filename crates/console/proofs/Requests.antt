@@ -9,11 +9,11 @@ use native.Mathlib.Nat.{eq-zero-or-pos}
 use native.Mathlib.Omega.{arith}
 use lib.ListN.{length, take, drop, replicate}
 use lib.Seq.{take-all, take-append-seam}
+use Rattle.answers.specs.Refusal.{Method, Words, orElse}
+use Rattle.answers.specs.Buffers.{overwritten}
 use Rattle.plans.specs.Plan.{headerOf}
 use Rattle.plans.specs.Blocks.{flat}
-use Rattle.planner.specs.declared.Refusal.the-variants.{Method, Words}
 use Rattle.planner.specs.Refusal.{headerRefusal}
-use Rattle.planner.specs.Written.{orElse, overwritten}
 use Rattle.requests.specs.Refusal.{requestRefusal}
 use Rattle.console.specs.Bytes.{wordAt, tooMany, wholeCount, wholeWords, handedOver, requestOf}
 use Rattle.console.proofs.Handed.{none-handed, whole-handed, whole-length}

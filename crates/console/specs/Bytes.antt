@@ -6,8 +6,8 @@ use Prim.Native.Nat.{ℕ, zero, suc, _+_, _*_, _/_, _%_, min}
 use lib.Dec.{ltb, eqb}
 use lib.ListN.{length, getD, take, replicate}
 use Rattle.fields.specs.Fields.{joinOf}
+use Rattle.answers.specs.Buffers.{overwritten}
 use Rattle.plans.specs.Blocks.{flat}
-use Rattle.planner.specs.Written.{overwritten}
 
 -- The bytes from place `at` on, `count` of them, joined.
 unfoldable pub joinedFrom : (bytes : List ℕ) (at count : ℕ) → ℕ

@@ -6,7 +6,7 @@ use Prim.Native.Nat.{ℕ}
 use lib.IntN.{pos}
 use lib.ListN.{length, replicate}
 use Rattle.io.specs.Counts.{Counts}
-use Rattle.planner.specs.Written.{overwritten}
+use Rattle.answers.specs.Buffers.{overwritten}
 use Rattle.engine.specs.Run.{Lent, outcome}
 use Rattle.console.specs.Bytes.{requestOf}
 use Rattle.lines.specs.Texts.{textOf, logText}

@@ -5,7 +5,7 @@ use plans::Header;
 ghost use mathlib.Core.Path.{_≡_};
 ghost use Prim.Native.Nat.{_+_, _≤_};
 ghost use lib.ListN.{length};
-ghost use Rattle.planner.specs.Written.{overwritten};
+ghost use Rattle.answers.specs.Buffers.{overwritten};
 ghost use Rattle.requests.specs.WithinLimits.{headerIn};
 ghost use Rattle.engine.specs.Run.{outcome, Met};
 ghost use Rattle.console.specs.Bytes.{joinedFrom, wholeCount, wholeWords, handedOver, requestOf};

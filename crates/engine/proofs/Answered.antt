@@ -7,14 +7,14 @@ use Prim.Native.Nat.{ℕ, _+_, _≤_}
 use native.Mathlib.Omega.{arith}
 use lib.IntN.{ℤ}
 use lib.ListN.{length, drop}
+use Rattle.answers.specs.declared.Refusal.{Refusal}
+use Rattle.answers.specs.Buffers.{overwritten}
 use Rattle.machine.specs.Effect.{cellAt}
 use Rattle.machine.specs.Log.{cellsAfter, logOf, sumOf, roundsOf}
 use Rattle.machine.proofs.Carried.{length-after}
 use Rattle.machine.proofs.Replayed.{charge-log}
 use Rattle.plans.specs.declared.Header.{Header}
 use Rattle.plans.specs.Plan.{Accepted, planOf, cellsOf}
-use Rattle.planner.specs.declared.Refusal.{Refusal}
-use Rattle.planner.specs.Written.{overwritten}
 use Rattle.requests.specs.Refusal.{wordCountOf}
 use Rattle.requests.specs.WithinLimits.{headerIn, wordsIn, WithinLimits}
 use Rattle.requests.specs.Intake.{copied, startingCells, distanceCell, parentCell}
@@ -101,7 +101,7 @@ module _ {request : List ℕ} {lent : Lent} {h : Header} (p : Passed request len
           → Met (outcome request lent) (Ran (record { rounds = rounds; «log_length» = size; verdict = verdict })) left log
           distances parents
       ran verdict v not-one from f {distances} {parents} d q =
-          let zero : verdict ≡ 0 = ⊎-elim (λ e. v ∙ e) (λ e. absurd (not-one (v ∙ e))) (verdict-of h allowed left) in
+          let zero : verdict ≡ 0 = ⊎-elim (λ e. v ∙ e) (λ e. absurd (not-one (v ∙ e))) (verdict-of h left) in
           let e = rw (done .2, laid, p .is) at (sym v ∙ zero) in
           let to-distances : _≡_ {A = ℕ → ℤ} (λ v. cellAt left (from + v)) (λ v. cellAt left (distanceCell h v)) =
           fun-ext (λ v. rw (f, distance-at h allowed v)) in

@@ -13,7 +13,7 @@ use Rattle.machine.specs.Effect.{isZero, cellAt}
 use Rattle.machine.specs.Log.{cellsAfter}
 use Rattle.plans.specs.declared.Header.{Header}
 use Rattle.plans.specs.Limits.{far, mostWeight}
-use Rattle.plans.specs.Plan.{Accepted, cellsOf, instructionsOf, planOf}
+use Rattle.plans.specs.Plan.{Accepted, cellsOf, instructionsOf, planOf, verdictCell, published}
 use Rattle.plans.proofs.Headers.{header, by-method}
 use Rattle.requests.specs.Intake.{distanceCell, parentCell}
 use Rattle.graph.specs.Walk.{Edge, NegativeCycle, Below}
@@ -27,10 +27,8 @@ use Rattle.methods.specs.Method1 as Method1
 use Rattle.methods.specs.Method2 as Method2
 use Rattle.methods.proofs.Rooms.{today}
 use Rattle.methods.proofs.Headers.{header1, header2}
-use Rattle.engine.specs.Run.{verdictOf}
-use Rattle.engine.specs.Demands.{published}
+use Rattle.engine.specs.Run.{openedAt, verdictOf}
 use Rattle.engine.specs.Network.{edgeOf, Entered, networkOf, namingOf}
-use Rattle.engine.proofs.Logs.{flagOf}
 use Rattle.engine.proofs.Table.{tableOf}
 
 -- What intake supplies to the header's method.
@@ -49,7 +47,7 @@ pub record Left (h : Header) (ws : List ℕ) (start left : List ℤ) : Type 0 wh
   pub rest : (k : ℕ) → cellsOf h ≤ k → cellAt left k ≡ cellAt start k
   pub exact : Exact (instructionsOf h) start
   -- The opened word is the verdict.
-  pub opened : published h (bitsOf 64 (flagOf h left)) ≡ published h (verdictOf h left)
+  pub opened : openedAt (verdictCell h) left ≡ published (verdictCell h) (verdictOf h left)
 
 -- ---- the flag
 
@@ -88,7 +86,7 @@ flag (negsuc k) one none = absurd (neither one none (λ e. omega arithℤ) (λ e
 
 pub left : (h : Header) → Accepted h → (ws : List ℕ) (start : List ℤ) → Given h ws start
     → Left h ws start (cellsAfter (drop 1 (planOf h)) start)
-unfolding verdictOf networkOf namingOf distanceCell parentCell cellsOf instructionsOf
+unfolding verdictCell verdictOf networkOf namingOf distanceCell parentCell cellsOf instructionsOf
 left =
     by-method
     (λ h. (ws : List ℕ) (start : List ℤ) → Given h ws start → Left h ws start (cellsAfter (drop 1 (planOf h)) start))

@@ -1,5 +1,6 @@
 pub mod Intake
 pub mod Logs
+pub mod Carries
 pub mod Table
 pub mod Left
 pub mod Taken
@@ -10,4 +11,3 @@ pub mod Told
 pub mod Theorems
 pub mod Placed
 pub mod Answered
-pub mod Ahead

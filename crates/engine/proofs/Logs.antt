@@ -1,10 +1,10 @@
--- The log of a header's plan: the plan's words and, in method 1, one more, the cell at X+7 of those left; and its length.
--- Rests on the weights of plans and on the machine's laws of logs.
+-- The log of a header's plan: the plan's words and, where it has a verdict, one more, that cell of those left; and its length.
+-- Rests on outlines and their weights, and on the machine's laws of logs.
 use mathlib.Core.Path.{_≡_, refl, sym, ap, ap₂, _∙_}
 use mathlib.Core.Bool.{cond}
 use mathlib.Core.List.{List, [], _∷_, _++_, map, map-append, append-assoc, append-nil}
-use Prim.Native.Nat.{ℕ, _-_, _<_}
-use native.Mathlib.Nat.{mul-zero}
+use mathlib.Core.Option.{Option, none, some}
+use Prim.Native.Nat.{ℕ}
 use native.Mathlib.Omega.{arith}
 use lib.Dec.{eqb}
 use lib.IntN.{ℤ}
@@ -17,18 +17,20 @@ use Rattle.machine.specs.Log.{carry, carried, cellsAfter, logged, logFrom, logO
 use Rattle.machine.proofs.Encoded.{fields-packed, decode-encode, op-encode}
 use Rattle.machine.proofs.Appended.{logged-open, logged-other}
 use Rattle.plans.specs.declared.Header.{Header}
-use Rattle.plans.specs.Limits.{far, byMethod}
-use Rattle.plans.specs.Blocks.{flat}
+use Rattle.plans.specs.Limits.{far}
+use Rattle.plans.specs.Outline.{fixed, Cell, Outline, start, cellOf, instructions}
+use Rattle.plans.specs.Outline as Outline
 use Rattle.plans.specs.Method1 as Method1
 use Rattle.plans.specs.Method2 as Method2
-use Rattle.plans.specs.Plan.{headerWord, Accepted, instructionsOf, planOf}
+use Rattle.plans.specs.Plan.{headerWord, Accepted, instructionsOf, planOf, verdictCell, published}
 use Rattle.plans.proofs.Blocks.{sum-append, sum-map}
-use Rattle.plans.proofs.Weights.{weigh, plan1-weight, plan2-weight}
+use Rattle.plans.proofs.Weights.{outlineWeight, outline-weight}
+use Rattle.plans.proofs.Outlines.{Ends, here, past-line, past-run, past-each, past-again, before-last}
 use Rattle.plans.proofs.Headers.{header, by-method}
 use Rattle.plans.proofs.Addresses.{fits-plan}
 use Rattle.plans.proofs.Figures.{length-plan}
 use Rattle.requests.specs.Refusal.{logLengthOf}
-use Rattle.engine.specs.Demands.{published}
+use Rattle.engine.specs.Run.{openedAt}
 
 -- ---- how many words open a cell
 
@@ -64,99 +66,87 @@ after-append (x ∷ xs) ys cells = after-append xs ys (carried x cells)
 
 -- Of words of which the last alone opens a cell: they, and that cell of those left.
 module _ (ws : List ℕ) (a : ℕ) (fits : Fits (OPEN a)) (cells : List ℤ) where
-  abbrev last : ℕ
-  last = encode (OPEN a)
+  abbrev final : ℕ
+  final = encode (OPEN a)
 
   abbrev before : List ℤ
   before = cellsAfter ws cells
 
-  nothing-done : carried last before ≡ before
+  nothing-done : carried final before ≡ before
   unfolding carry perform
   nothing-done = ap (λ o. carry o before) (decode-encode (OPEN a) fits)
 
-  left-before : cellsAfter (ws ++ last ∷ []) cells ≡ before
+  left-before : cellsAfter (ws ++ final ∷ []) cells ≡ before
   unfolding cellsAfter
-  left-before = after-append ws (last ∷ []) cells ∙ nothing-done
+  left-before = after-append ws (final ∷ []) cells ∙ nothing-done
 
-  log-last : opened (ws ++ last ∷ []) ≡ 1
-      → logFrom (ws ++ last ∷ []) cells
-      ≡ (ws ++ last ∷ []) ++ bitsOf 64 (cellAt (cellsAfter (ws ++ last ∷ []) cells) a) ∷ []
+  log-last : opened (ws ++ final ∷ []) ≡ 1
+      → logFrom (ws ++ final ∷ []) cells
+      ≡ (ws ++ final ∷ []) ++ bitsOf 64 (cellAt (cellsAfter (ws ++ final ∷ []) cells) a) ∷ []
   unfolding logFrom sumOf
   log-last e =
-      let op : opField last ≡ 7 = op-encode (OPEN a) fits in
-      let at : aField last ≡ a = fields-packed 7 0 a 0 (omega arith) (omega arith) (omega arith) (omega arith) .a-is in
-      let none : opened ws ≡ 0 = omega (arith, sum-append opens ws (last ∷ []), ap opening op) in
-      log-append ws (last ∷ []) cells
-      ∙ ap₂ _++_ (quiet ws cells none) (ap (λ l. l ++ []) (logged-open last before op))
+      let op : opField final ≡ 7 = op-encode (OPEN a) fits in
+      let at : aField final ≡ a = fields-packed 7 0 a 0 (omega arith) (omega arith) (omega arith) (omega arith) .a-is in
+      let none : opened ws ≡ 0 = omega (arith, sum-append opens ws (final ∷ []), ap opening op) in
+      log-append ws (final ∷ []) cells
+      ∙ ap₂ _++_ (quiet ws cells none) (ap (λ l. l ++ []) (logged-open final before op))
       ∙ rw (left-before, at) (simp append-assoc)
 
--- ---- the methods' plans
+-- ---- the words of an outline
 
--- The words of instructions open as many cells as these do.
-opened-words : (is : List (Instruction ℕ)) (k : ℕ) → All Fits is → weigh opening is ≡ k → opened (map encode is) ≡ k
-opened-words is k fits e =
-    sum-map Fits (λ i. opening (opOf i)) encode opens (λ i f. ap opening (op-encode i f)) is fits ∙ e
+module _ (name : (region place : ℕ) → ℕ) (n m source : ℕ) (o : Outline) (cells : List ℤ) where
+  abbrev is : List (Instruction ℕ)
+  is = instructions name far n m source o start
 
-module _ (n m source : ℕ) where
-  abbrev plan1 : List (Instruction ℕ)
-  plan1 = Method1.plan (Method1.places n m) far n m source
+  abbrev words : List ℕ
+  words = map encode is
 
-  -- But for its last instruction.
-  abbrev front : List (Instruction ℕ)
-  front =
-      let c = Method1.places n m in
-      Method1.opening c far n source ++ (flat (n - 1) (λ p. Method1.pass c far n m) ++ flat m (Method1.check c far n))
+  opened-words : (k : ℕ) → outlineWeight n m opening o ≡ k → All Fits is → opened words ≡ k
+  opened-words k e fits =
+      sum-map Fits (λ i. opening (opOf i)) encode opens (λ i f. ap opening (op-encode i f)) is fits
+      ∙ outline-weight name far n m source opening o start
+      ∙ e
 
-  abbrev flag : ℕ
-  flag = Method1.places n m .X 7
+  -- Nothing opened: the words are their own log.
+  log-quiet : outlineWeight n m opening o ≡ 0 → All Fits is → logFrom words cells ≡ words
+  log-quiet e fits = quiet words cells (opened-words 0 e fits)
 
-  split : map encode plan1 ≡ map encode front ++ encode (OPEN flag) ∷ []
-  unfolding Method1.plan
-  split = simp (map-append, append-assoc)
+  -- One cell opened, by the last word.
+  module _ (a : Cell) where
+    abbrev flag : ℕ
+    flag = cellOf name far n m source start a
 
-  log1 : All Fits plan1 → Fits (OPEN flag) → 0 < n → (cells : List ℤ)
-      → logFrom (map encode plan1) cells
-      ≡ map encode plan1 ++ bitsOf 64 (cellAt (cellsAfter (map encode plan1) cells) flag) ∷ []
-  log1 fits last vertices cells =
-      let one : opened (map encode plan1) ≡ 1 =
-      opened-words plan1 1 fits (plan1-weight (Method1.places n m) far n opening m source vertices ∙ simp mul-zero) in
-      rw split (log-last (map encode front) flag last cells (rw split at one))
-
-log2 : (n source : ℕ) (cells : List ℤ) → All Fits (Method2.plan (Method2.places n) far n source)
-    → logFrom (map encode (Method2.plan (Method2.places n) far n source)) cells
-    ≡ map encode (Method2.plan (Method2.places n) far n source)
-log2 n source cells fits =
-    quiet _ cells (opened-words _ 0 fits (plan2-weight (Method2.places n) far n opening source ∙ omega arith))
+    log-opens : Ends (Outline.opens a) o → outlineWeight n m opening o ≡ 1 → All Fits is → Fits (OPEN flag)
+        → logFrom words cells ≡ words ++ bitsOf 64 (cellAt (cellsAfter words cells) flag) ∷ []
+    log-opens e one fits f =
+        let (front, s) = before-last name far n m source (Outline.opens a) start e in
+        let split : words ≡ map encode front ++ encode (OPEN flag) ∷ [] = ap (map encode) s ∙ map-append encode front (OPEN flag ∷ []) in
+        rw split (log-last (map encode front) flag f cells (rw split at (opened-words 1 one fits)))
 
 -- ---- the plan of a header
 
--- The cell that method 1 opens.
-abbrev pub flagOf : Header → (left : List ℤ) → ℤ
-flagOf h left = cellAt left (Method1.places (h .vertices) (h .edges) .X 7)
-
 pub log-plan : (h : Header) → Accepted h → (cells : List ℤ)
-    → logOf (planOf h) cells ≡ planOf h ++ published h (bitsOf 64 (flagOf h (cellsAfter (drop 1 (planOf h)) cells)))
-unfolding planOf logOf instructionsOf
+    → logOf (planOf h) cells ≡ planOf h ++ openedAt (verdictCell h) (cellsAfter (drop 1 (planOf h)) cells)
+unfolding planOf logOf instructionsOf verdictCell Method1.plan Method2.plan sumOf
 log-plan =
     by-method
-    (λ h. (cells : List ℤ)
-    → logOf (planOf h) cells ≡ planOf h ++ published h (bitsOf 64 (flagOf h (cellsAfter (drop 1 (planOf h)) cells))))
+    (λ h. (cells : List ℤ) → logOf (planOf h) cells ≡ planOf h ++ openedAt (verdictCell h) (cellsAfter (drop 1 (planOf h)) cells))
     (λ n m source a cells.
     ap (λ (l : List ℕ). headerWord (header 1 n m source) ∷ l)
-    (log1 n m source (fits-plan (header 1 n m source) a) (omega arith) (omega arith) cells))
+    (log-opens (Method1.address (Method1.places n m)) n m source Method1.outline cells (6, fixed 7)
+    (past-run (past-line (past-line (past-again (past-each here))))) (omega arith) (fits-plan (header 1 n m source) a) (omega arith)))
     (λ n source a cells.
     ap (λ (l : List ℕ). headerWord (header 2 n 0 source) ∷ l)
-    (log2 n source cells (fits-plan (header 2 n 0 source) a) ∙ sym (append-nil _)))
+    (log-quiet (Method2.address (Method2.places n)) n 0 source Method2.outline cells (omega arith) (fits-plan (header 2 n 0 source) a)
+    ∙ sym (append-nil _)))
 
-published-length : (h : Header) → Accepted h → (w : ℕ) → length (published h w) ≡ byMethod (h .method) 0 (1 ∷ 0 ∷ [])
-published-length =
-    by-method (λ h. (w : ℕ) → length (published h w) ≡ byMethod (h .method) 0 (1 ∷ 0 ∷ []))
-    (λ n m source a w. refl)
-    (λ n source a w. refl)
+opened-length : (cell : Option ℕ) (left : List ℤ) → length (openedAt cell left) ≡ length (published cell 0)
+opened-length none left = refl
+opened-length (some cell) left = refl
 
 pub log-length : (h : Header) → Accepted h → (cells : List ℤ) → length (logOf (planOf h) cells) ≡ logLengthOf h
 unfolding logLengthOf
 log-length h a cells =
     ap length (log-plan h a cells)
     ∙ length-append (planOf h) _
-    ∙ rw (length-plan h a, published-length h a)
+    ∙ rw (length-plan h a, opened-length (verdictCell h) (cellsAfter (drop 1 (planOf h)) cells))

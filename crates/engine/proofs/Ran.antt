@@ -3,32 +3,33 @@
 use mathlib.Core.Path.{_≡_, refl, sym, ap, _∙_}
 use mathlib.Core.Logic.{_⊎_, inl, inr}
 use mathlib.Core.List.{List, _++_}
+use mathlib.Core.Option.{Option, none, some}
 use Prim.Native.Nat.{ℕ}
 use lib.IntN.{ℤ}
 use lib.ListN.{length, getD}
 use lib.Seq.{take-append-seam}
-use Rattle.machine.specs.Effect.{isZero}
+use Rattle.machine.specs.Effect.{isZero, cellAt}
 use Rattle.machine.specs.Log.{chargeOf}
 use Rattle.plans.specs.declared.Header.{Header}
-use Rattle.plans.specs.Plan.{Accepted, planOf}
-use Rattle.plans.proofs.Headers.{header, by-method}
-use Rattle.planner.specs.Written.{overwritten}
+use Rattle.plans.specs.Plan.{Accepted, planOf, verdictCell, published}
+use Rattle.answers.specs.Buffers.{overwritten}
 use Rattle.requests.specs.Refusal.{logLengthOf}
 use Rattle.requests.specs.WithinLimits.{headerIn, wordsIn, WithinLimits}
 use Rattle.graph.proofs.Test.{by-test}
 use Rattle.requests.proofs.WithinLimits.{accepted-in, within}
-use Rattle.engine.specs.Run.{Lent, Outcome, startOf, logOfRun, cellsLeft, verdictOf, verdictOfRun, ranBy, outcome}
-use Rattle.engine.specs.Demands.{RanOn, roundsTold, lengthTold, verdictTold, logTold, published}
-use Rattle.engine.proofs.Logs.{flagOf, log-plan, log-length}
+use Rattle.engine.specs.Run.{Lent, Outcome, startOf, logOfRun, cellsLeft, verdictAt, verdictOf, verdictOfRun, ranBy, outcome}
+use Rattle.engine.specs.Demands.{RanOn, roundsTold, lengthTold, verdictTold, logTold}
+use Rattle.engine.proofs.Logs.{log-plan, log-length}
 use Rattle.engine.proofs.Left.{Left}
 use Rattle.engine.proofs.Taken.{ends}
 
-pub verdict-of : (h : Header) → Accepted h → (left : List ℤ) → (verdictOf h left ≡ 0) ⊎ (verdictOf h left ≡ 1)
+verdict-at : (cell : Option ℕ) (left : List ℤ) → (verdictAt cell left ≡ 0) ⊎ (verdictAt cell left ≡ 1)
+verdict-at none left = inl refl
+verdict-at (some cell) left = by-test (isZero (cellAt left cell)) (λ e. inl (rw e)) (λ e. inr (rw e))
+
+pub verdict-of : (h : Header) (left : List ℤ) → (verdictOf h left ≡ 0) ⊎ (verdictOf h left ≡ 1)
 unfolding verdictOf
-verdict-of =
-    by-method (λ h. (left : List ℤ) → (verdictOf h left ≡ 0) ⊎ (verdictOf h left ≡ 1))
-    (λ n m source a left. by-test (isZero (flagOf (header 1 n m source) left)) (λ e. inl (rw e)) (λ e. inr (rw e)))
-    (λ n source a left. inl refl)
+verdict-of h left = verdict-at (verdictCell h) left
 
 module _ (request : List ℕ) (lent : Lent) (ran : RanOn request lent) where
   pub inside : WithinLimits request (length (lent .cells)) (length (lent .log)) (length (lent .distances)) (length (lent .parents))
@@ -51,7 +52,7 @@ module _ (request : List ℕ) (lent : Lent) (ran : RanOn request lent) where
       → (verdictOfRun request lent ≡ 1 → P (ranBy 1 request lent))
       → P (outcome request lent)
   by-verdict P zero one =
-      elim (verdict-of (headerIn request) allowed (cellsLeft request lent)) [
+      elim (verdict-of (headerIn request) (cellsLeft request lent)) [
         | inl e ↦ rw (ended 0 e) (zero e)
         | inr e ↦ rw (ended 1 e) (one e)
       ]
@@ -76,9 +77,9 @@ module _ (request : List ℕ) (lent : Lent) (ran : RanOn request lent) where
   pub log-told : logTold request lent ≡ logOfRun request lent
   log-told = rw (length-is, log-is) (take-append-seam (logOfRun request lent) _)
 
-  -- The plan and, in method 1, the verdict.
+  -- The plan and, where there is a cell for it, the verdict.
   pub log-published : logTold request lent
-      ≡ planOf (headerIn request) ++ published (headerIn request) (verdictTold request lent)
+      ≡ planOf (headerIn request) ++ published (verdictCell (headerIn request)) (verdictTold request lent)
   log-published =
       log-told
       ∙ log-plan (headerIn request) allowed (startOf request lent)

@@ -15,7 +15,6 @@ use Rattle.requests.specs.Intake.{orFar}
 use Rattle.requests.specs.WithinLimits.{EntryWithin}
 use Rattle.graph.specs.Walk.{Edge}
 use Rattle.graph.specs.Dijkstra.{tableNetwork}
-use Rattle.graph.proofs.Int.{arithℤ}
 use Rattle.engine.specs.Network.{Entered}
 
 -- The weight from u to v, FAR where there is no edge.

@@ -1,23 +1,21 @@
 -- What the log of a run tells, and what the logs of two runs do.
 -- Rests on the log of a run and on the machine's laws of logs.
 use mathlib.Core.Path.{_≡_, refl, sym, ap, _∙_}
-use mathlib.Core.Logic.{_↔_}
+use mathlib.Core.Logic.{_↔_, _≢_}
 use mathlib.Core.List.{List, [], _∷_, _++_, append-cancel-left}
-use mathlib.Core.Option.{some}
+use mathlib.Core.Option.{Option, none, some, Option·some-ne-none}
 use Prim.Native.Nat.{ℕ, _^_, _<_, _≤_}
-use native.Mathlib.Omega.{arith}
 use lib.ListN.{length, getD}
 use Rattle.machine.specs.Log.{replay, withoutPublished}
 use Rattle.machine.proofs.Replayed.{replay-log, words-log, charge-log}
 use Rattle.plans.specs.declared.Header.{Header}
-use Rattle.plans.specs.Plan.{Accepted, cellsOf, planOf, roundsOfPlan}
-use Rattle.plans.proofs.Headers.{by-method}
+use Rattle.plans.specs.Plan.{cellsOf, planOf, verdictCell, published, roundsOfPlan}
 use Rattle.plans.proofs.Addresses.{admitted-plan}
 use Rattle.plans.proofs.Figures.{rounds-plan}
 use Rattle.plans.proofs.Same.{headerWord-headerOf, same-plan}
 use Rattle.requests.specs.WithinLimits.{headerIn}
 use Rattle.engine.specs.Run.{Lent, startOf, outcome}
-use Rattle.engine.specs.Demands.{RanOn, roundsTold, verdictTold, logTold, published, SamePublic}
+use Rattle.engine.specs.Demands.{RanOn, roundsTold, verdictTold, logTold, SamePublic}
 use Rattle.engine.proofs.Intake.{long}
 use Rattle.engine.proofs.Taken.{enough}
 use Rattle.engine.proofs.Ran.{inside, allowed, cells-are, rounds-are, log-told, log-published}
@@ -49,23 +47,21 @@ module _ (request : List ℕ) (lent : Lent) (ran : RanOn request lent) where
 
 -- ---- two runs
 
--- The published words are the same just where the words are that method 1 publishes.
-same-published : (h : Header) → Accepted h → (v v′ : ℕ) → (h .method ≡ 1 → v ≡ v′) ↔ (published h v ≡ published h v′)
-same-published =
-    by-method (λ h. (v v′ : ℕ) → (h .method ≡ 1 → v ≡ v′) ↔ (published h v ≡ published h v′))
-    (λ n m source a v v′. (
-      λ f. ap (λ (w : ℕ). w ∷ []) (f refl),
-      λ (e : v ∷ [] ≡ v′ ∷ []) one. ap (λ ws. getD ws 0 0) e,
-    ))
-    (λ n source a v v′. (λ f. refl, λ e (one : _≡_ {A = ℕ} 2 1). omega arith))
+-- The published words are the same just where the verdicts are, if there is a cell for it.
+same-published : (cell : Option ℕ) (v v′ : ℕ) → (cell ≢ none → v ≡ v′) ↔ (published cell v ≡ published cell v′)
+same-published none v v′ = (λ f. refl, λ e opens. absurd (opens refl))
+same-published (some cell) v v′ = (
+  λ f. ap (λ (w : ℕ). w ∷ []) (f (Option·some-ne-none cell)),
+  λ e opens. ap (λ ws. getD ws 0 0) e,
+)
 
--- Logs of accepted headers, as plans with published words.
-module _ (g h : Header) (v v′ : ℕ) (b : Accepted h) (e : g ≡ h) where
-  alike : (g .method ≡ 1 → v ≡ v′) → planOf g ++ published g v ≡ planOf h ++ published h v′
-  alike f = rw e (ap (λ l. planOf h ++ l) (same-published h b v v′ .0 (rw e at f)))
+-- Logs, as plans with published words.
+module _ (g h : Header) (v v′ : ℕ) (e : g ≡ h) where
+  alike : (verdictCell g ≢ none → v ≡ v′) → planOf g ++ published (verdictCell g) v ≡ planOf h ++ published (verdictCell h) v′
+  alike f = rw e (ap (λ l. planOf h ++ l) (same-published (verdictCell h) v v′ .0 (rw e at f)))
 
-  told-apart : planOf g ++ published g v ≡ planOf h ++ published h v′ → g .method ≡ 1 → v ≡ v′
-  told-apart q one = same-published h b v v′ .1 (append-cancel-left (planOf h) _ _ (rw e at q)) (rw e at one)
+  told-apart : planOf g ++ published (verdictCell g) v ≡ planOf h ++ published (verdictCell h) v′ → verdictCell g ≢ none → v ≡ v′
+  told-apart q opens = same-published (verdictCell h) v v′ .1 (append-cancel-left (planOf h) _ _ (rw e at q)) (rw e at opens)
 
 pub same-logs : (request request′ : List ℕ) (lent lent′ : Lent) → RanOn request lent → RanOn request′ lent′
     → (logTold request lent ≡ logTold request′ lent′) ↔ SamePublic request lent request′ lent′
@@ -86,9 +82,9 @@ same-logs request request′ lent lent′ ran ran′ =
             vertices = ap (λ k. k .vertices) q;
             edges = ap (λ k. k .edges) q;
             source = ap (λ k. k .source) q;
-            verdict = told-apart g h v v′ b q (sym log ∙ e ∙ log′);
+            verdict = told-apart g h v v′ q (sym log ∙ e ∙ log′);
           },
       λ s.
           let q : g ≡ h = λ i. record { method = s .method i; vertices = s .vertices i; edges = s .edges i; source = s .source i } in
-          log ∙ alike g h v v′ b q (s .verdict) ∙ sym log′,
+          log ∙ alike g h v v′ q (s .verdict) ∙ sym log′,
     )

@@ -1,20 +1,19 @@
 -- The three demands, about the very definitions that the contracts of `run` and `run_plan` cite: for every request, foreign plan and lent
 -- buffer, nothing assumed of their words. Rests on everything below; the proofs are in proofs/.
 use mathlib.Core.Path.{_≡_}
-use mathlib.Core.Logic.{_↔_, _⊎_}
+use mathlib.Core.Logic.{_↔_, _⊎_, _≢_}
 use mathlib.Core.List.{List, [], _∷_, _++_}
 use mathlib.Core.Option.{none, some}
 use Prim.Native.Nat.{ℕ, _^_, _<_, _≤_}
 use lib.IntN.{ℤ, pos}
 use lib.ListN.{length, getD, take, drop}
+use Rattle.answers.specs.declared.Refusal.{Refusal}
+use Rattle.answers.specs.Told.{refused}
 use Rattle.machine.specs.Instruction.{All}
 use Rattle.machine.specs.Effect.{cellAt}
 use Rattle.machine.specs.Log.{Spares, replay, withoutPublished, chargeOf}
-use Rattle.plans.specs.declared.Header.{Header}
-use Rattle.plans.specs.Limits.{far, byMethod}
-use Rattle.plans.specs.Plan.{cellsOf, instructionsOf, planOf, roundsOfPlan}
-use Rattle.planner.specs.declared.Refusal.{Refusal}
-use Rattle.planner.specs.Refusal.{refused}
+use Rattle.plans.specs.Limits.{far}
+use Rattle.plans.specs.Plan.{cellsOf, instructionsOf, planOf, verdictCell, published, roundsOfPlan}
 use Rattle.runner.specs.Runner.{logSize, runnerRefusal, planOutcome, planRounds, planLength, planLog}
 use Rattle.runner.specs.PlanWithin.{PlanWithin}
 use Rattle.requests.specs.Refusal.{logLengthOf}
@@ -93,17 +92,13 @@ pub record Demand2 (request : List ℕ) (lent : Lent) : Type 0 where
 
 -- ---- demand 3: what the log tells
 
--- The words that a run publishes: in method 1 the verdict.
-abbrev pub published : Header → (verdict : ℕ) → List ℕ
-published h verdict = byMethod (h .method) [] ((verdict ∷ []) ∷ [] ∷ [])
-
--- What is public of two runs is the same: method, vertices, the header's edges, source and, in method 1, the verdict.
+-- What is public of two runs is the same: method, vertices, the header's edges, source and, in a method with a verdict, the verdict.
 pub record SamePublic (request : List ℕ) (lent : Lent) (request′ : List ℕ) (lent′ : Lent) : Type 0 where
   pub method : headerIn request .method ≡ headerIn request′ .method
   pub vertices : headerIn request .vertices ≡ headerIn request′ .vertices
   pub edges : headerIn request .edges ≡ headerIn request′ .edges
   pub source : headerIn request .source ≡ headerIn request′ .source
-  pub verdict : headerIn request .method ≡ 1 → verdictTold request lent ≡ verdictTold request′ lent′
+  pub verdict : verdictCell (headerIn request) ≢ none → verdictTold request lent ≡ verdictTold request′ lent′
 
 -- (a) For any two requests that ran, whatever their private words and lent buffers: the logs are equal exactly when that is the same.
 abbrev pub Demand3a : Type 0
@@ -118,7 +113,7 @@ pub record Demand3 (request : List ℕ) (lent : Lent) : Type 0 where
   -- its first word is the request's own.
   pub planned : RanOn request lent → withoutPublished (logTold request lent) ≡ planOf (headerIn request)
   pub verdict-last : RanOn request lent
-      → logTold request lent ≡ planOf (headerIn request) ++ published (headerIn request) (verdictTold request lent)
+      → logTold request lent ≡ planOf (headerIn request) ++ published (verdictCell (headerIn request)) (verdictTold request lent)
   pub own-header : RanOn request lent → getD request 0 0 < 2 ^ 64 → getD (logTold request lent) 0 0 ≡ getD request 0 0
   -- The length and the rounds told are document 01's figures for the header, and the log has that many words.
   pub length-figure : RanOn request lent → lengthTold request lent ≡ logLengthOf (headerIn request)

@@ -1,4 +1,3 @@
 pub mod Run
 pub mod Network
 pub mod Demands
-pub mod Ahead

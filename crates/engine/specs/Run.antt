@@ -6,15 +6,14 @@ use mathlib.Core.Option.{Option, none, some}
 use Prim.Native.Nat.{ℕ, zero, suc}
 use lib.IntN.{ℤ}
 use lib.ListN.{length, drop}
+use Rattle.fields.specs.Fields.{bitsOf}
 use Rattle.machine.specs.Effect.{isZero, cellAt}
 use Rattle.machine.specs.Log.{cellsAfter, logOf, chargeOf}
 use Rattle.plans.specs.declared.Header.{Header}
-use Rattle.plans.specs.Limits.{byMethod}
-use Rattle.plans.specs.Method1 as Method1
-use Rattle.plans.specs.Plan.{planOf}
-use Rattle.planner.specs.declared.Refusal.{Refusal}
-use Rattle.planner.specs.Refusal.{Told, refused}
-use Rattle.planner.specs.Written.{overwritten}
+use Rattle.plans.specs.Plan.{planOf, verdictCell}
+use Rattle.answers.specs.declared.Refusal.{Refusal}
+use Rattle.answers.specs.Told.{Told, refused}
+use Rattle.answers.specs.Buffers.{overwritten}
 use Rattle.requests.specs.Refusal.{requestRefusal}
 use Rattle.requests.specs.Intake.{copied, startingCells, distanceCell, parentCell}
 use Rattle.requests.specs.WithinLimits.{headerIn, wordsIn}
@@ -48,10 +47,17 @@ refusalOf request lent =
 
 -- ---- the run
 
--- The verdict that the cells hold: the flag at X+7 in method 1; method 2 opens nothing.
+-- The verdict that a cell holds, 0 where there is none; and the word that is published of it.
+abbrev pub verdictAt : Option ℕ → (left : List ℤ) → ℕ
+verdictAt none left = 0
+verdictAt (some cell) left = cond (isZero (cellAt left cell)) 0 1
+
+abbrev pub openedAt : Option ℕ → (left : List ℤ) → List ℕ
+openedAt none left = []
+openedAt (some cell) left = bitsOf 64 (cellAt left cell) ∷ []
+
 unfoldable pub verdictOf : Header → List ℤ → ℕ
-verdictOf h left =
-    byMethod (h .method) 0 (cond (isZero (cellAt left (Method1.places (h .vertices) (h .edges) .X 7))) 0 1 ∷ 0 ∷ [])
+verdictOf h left = verdictAt (verdictCell h) left
 
 module _ (request : List ℕ) (lent : Lent) where
   -- The cells that the run starts from, its log, and the cells that it leaves.

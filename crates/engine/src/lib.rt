@@ -1,20 +1,20 @@
 // The engine: a request run on lent buffers.
-// Rests on requests (checks and intake), planner (the plan) and machine (carrying out).
-use planner::Blocks;
-use planner::Checked;
-use planner::Refusal;
+// Rests on requests (checks and intake), planner (the plan) and runner (carrying out).
+use answers::Checked;
+use answers::Refusal;
+use planner::VerdictCell;
 use plans::Header;
 use runner::Tally;
 ghost use mathlib.Core.Path.{_≡_};
-ghost use Prim.Native.Nat.{_+_, _<_, _≤_};
-ghost use lib.ListN.{length, getD, drop};
+ghost use Prim.Native.Nat.{_+_, _≤_};
+ghost use lib.ListN.{length, drop};
+ghost use lib.Seq.{sets};
 ghost use Rattle.machine.specs.Effect.{cellAt};
 ghost use Rattle.machine.specs.Log.{cellsAfter, logOf, sumOf, roundsOf};
-ghost use Rattle.plans.specs.Plan.{Accepted, planOf, cellsOf, lengthOf, blocksFrom, blockSize, blocksUntil};
-ghost use Rattle.planner.specs.Written.{overwritten};
+ghost use Rattle.plans.specs.Plan.{Accepted, planOf, cellsOf, verdictCell, published};
+ghost use Rattle.answers.specs.Buffers.{overwritten};
 ghost use Rattle.requests.specs.Intake.{copied, distanceCell};
-ghost use Rattle.engine.specs.Ahead.{Ahead};
-ghost use Rattle.engine.specs.Run.{verdictOf, outcome, Met};
+ghost use Rattle.engine.specs.Run.{openedAt, verdictOf, outcome, Met};
 
 // What a run answers besides its buffers.
 pub struct Report {
@@ -30,54 +30,40 @@ pub enum Answer {
     Refused(Refusal),
 }
 
-// The k-th word of the plan. Where its words repeat and nothing has been published yet, the log has it a block before.
-fn next_word(h: Header, blocks: Blocks, log: &[u64], at: usize, k: usize) -> u64
-    requires { ⌜ Accepted h × (k < lengthOf h) × (k < length (now log)) × (blocks .from ≡ blocksFrom h) × (blocks .size ≡ blockSize h) × (blocks .until ≡ blocksUntil h) × Ahead (planOf h) (now log) at k ⌝ }
-    ensures { λ r. ⌜ r ≡ getD (planOf h) k 0 ⌝ }
+// The verdict's cell, where there is one, published at the end of the log; the log's length.
+fn publish(h: Header, cells: &[i64], log: &mut [u64], at: usize) -> usize
+    requires { ⌜ Accepted h × (cellsOf h ≤ length (now cells)) × (at + length (published (verdictCell h) 0) ≤ length (now log)) ⌝ }
+    ensures { λ r. ⌜ (r ≡ at + length (openedAt (verdictCell h) (now (cells .entry)))) × (now (log .exit) ≡ sets (now (log .entry)) at (openedAt (verdictCell h) (now (cells .entry)))) ⌝ }
 {
-    if at == k && k < blocks.until && blocks.from <= k {
-        if blocks.size <= k - blocks.from {
-            return log[k - blocks.size];
+    match planner::verdict_cell(h) {
+        VerdictCell::At(cell) => {
+            log[at] = fields::bits(cells[cell], 64);
+            at + 1
         }
+        VerdictCell::Nothing => at,
     }
-    planner::word_at(h, k)
 }
 
-// The plan of the header carried out word by word, in order, each once, and logged.
+// The plan of the header written to the log and carried out, in order, each word once; then the verdict published.
 fn carry(h: Header, cells: &mut [i64], log: &mut [u64]) -> Tally
     requires { ⌜ Accepted h × (cellsOf h ≤ length (now cells)) × (length (logOf (planOf h) (now cells)) ≤ length (now log)) ⌝ }
     ensures { λ r. ⌜ (r .rounds ≡ sumOf roundsOf (drop 1 (planOf h))) × (r .length ≡ length (logOf (planOf h) (now (cells .entry)))) × (now (cells .exit) ≡ cellsAfter (drop 1 (planOf h)) (now (cells .entry))) × (now (log .exit) ≡ overwritten (logOf (planOf h) (now (cells .entry))) (now (log .entry))) ⌝ }
 {
-    let size = planner::plan_length(h);
-    let blocks = planner::blocks_of(h);
-    log[0] = planner::word_at(h, 0);
-    let mut rounds: u64 = 0;
-    let mut at: usize = 1;
-    let mut k: usize = 1;
-    while k < size {
-        let word = next_word(h, blocks, log, at, k);
-        at = machine::append(cells, log, at, word);
-        machine::step(cells, word);
-        rounds += machine::cost(word);
-        k += 1;
-    }
-    Tally { rounds, length: at }
+    let size = planner::fill(h, log);
+    let rounds = runner::carry_words(&log[..size], cells);
+    let length = publish(h, cells, log, size);
+    Tally { rounds, length }
 }
 
-// The verdict that the run left: in method 1 the flag at X+7, in method 2 none.
+// The verdict that the run left, 0 in a method without one.
 fn verdict(h: Header, cells: &[i64]) -> u64
     requires { ⌜ Accepted h × (cellsOf h ≤ length (now cells)) ⌝ }
     ensures { λ r. ⌜ r ≡ verdictOf h (now (cells .entry)) ⌝ }
 {
-    if h.method == 1 {
-        let x = (3 * h.edges + 3 * h.vertices) as usize;
-        let flag = cells[x + 7];
-        if flag == 0 {
-            return 0;
-        }
-        return 1;
+    match planner::verdict_cell(h) {
+        VerdictCell::At(cell) => { if cells[cell] == 0 { 0 } else { 1 } }
+        VerdictCell::Nothing => 0,
     }
-    0
 }
 
 // Results: `count` cells from place `from` on, copied to the start of a buffer.

@@ -1,12 +1,12 @@
--- Answers for callers that know only numbers (docs/CALLING.md), and what each call leaves in the lent memory: the outcome that `run`, `run_plan`
--- and `write_plan` promise, by the same definitions. Rests on those.
+-- Answers for callers that know only numbers (docs/CALLING.md), and what calls leave in lent buffers: the outcome that `run`, `run_plan` and
+-- `write_plan` promise, by the same definitions. Rests on those.
 use mathlib.Core.Path.{_≡_}
 use mathlib.Core.List.{List, [], _∷_}
 use mathlib.Core.Option.{Option, none, some}
 use Prim.Native.Nat.{ℕ}
 use lib.IntN.{ℤ}
 use lib.ListN.{length, getD}
-use Rattle.planner.specs.Refusal.{Told}
+use Rattle.answers.specs.Told.{Told}
 use Rattle.planner.specs.Written.{planRefusal, planWords, answerOf, bufferOf}
 use Rattle.runner.specs.Runner.{PlanOutcome}
 use Rattle.engine.specs.Run.{Outcome}

@@ -1,13 +1,14 @@
-// The engine for programs in other languages: three calls on plain numbers, with the answer as six numbers (docs/CALLING.md).
-// Rests on engine, runner and planner.
+// The engine for programs in other languages: four calls on plain numbers, with the answer as six numbers (docs/CALLING.md).
+// Rests on answers, engine, requests, runner and planner.
+use answers::Refusal;
 use engine::Answer;
-use planner::Place;
-use planner::Refusal;
 use planner::Written;
+use requests::Asked;
 use runner::PlanAnswer;
 ghost use mathlib.Core.Path.{_≡_};
-ghost use Rattle.planner.specs.Refusal.{refused};
+ghost use Rattle.answers.specs.Told.{refused};
 ghost use Rattle.planner.specs.Written.{toldByWriting};
+ghost use Rattle.requests.specs.Sizes.{toldBySizes, sizesTold};
 ghost use Rattle.runner.specs.Runner.{toldByPlan, planOutcome};
 ghost use Rattle.engine.specs.Run.{toldByRun, outcome};
 ghost use Rattle.exports.specs.Answers.{numbersOf, LeftByRun, LeftByPlan, LeftByWriting};
@@ -15,11 +16,10 @@ ghost use Rattle.exports.specs.Answers.{numbersOf, LeftByRun, LeftByPlan
 fn refusal_numbers(r: Refusal) -> [u64; 6]
     ensures { λ a. ⌜ a ≡ numbersOf (refused r) ⌝ }
 {
-    let number = planner::number_of(r);
-    match planner::place_of(r) {
-        Place::At(k) => [number, 1, k as u64, 0, 0, 0],
-        Place::Nowhere => [number, 0, 0, 0, 0, 0],
+    if r.placed {
+        return [r.number, 1, r.place as u64, 0, 0, 0];
     }
+    [r.number, 0, 0, 0, 0, 0]
 }
 
 fn run_numbers(answer: Answer) -> [u64; 6]
@@ -47,6 +47,15 @@ fn written_numbers(answer: Written) -> [u64; 6]
     match answer {
         Written::Length(size) => [0, 0, 0, size as u64, 0, 0],
         Written::Refused(refusal) => refusal_numbers(refusal),
+    }
+}
+
+fn sizes_numbers(answer: Asked) -> [u64; 6]
+    ensures { λ a. ⌜ a ≡ numbersOf (toldBySizes answer) ⌝ }
+{
+    match answer {
+        Asked::Needs(s) => [0, 0, 0, s.cells as u64, s.log as u64, s.results as u64],
+        Asked::Refused(refusal) => refusal_numbers(refusal),
     }
 }
 
@@ -84,4 +93,12 @@ pub extern "C" fn vukstaja_write_plan(header: &[u64], plan: &mut [u64], answer: 
     ensures { λ _. ⌜ LeftByWriting (now (header .entry)) (now (plan .entry)) (now (answer .exit)) (now (plan .exit)) ⌝ }
 {
     *answer = written_numbers(planner::write_plan(header, plan));
+}
+
+// What a header asks a caller to lend.
+#[no_mangle]
+pub extern "C" fn vukstaja_sizes(header: &[u64], answer: &mut [u64; 6])
+    ensures { λ _. ⌜ now (answer .exit) ≡ numbersOf (sizesTold (now (header .entry))) ⌝ }
+{
+    *answer = sizes_numbers(requests::sizes_needed(header));
 }

@@ -1,13 +1,15 @@
 -- The table of specs/Rules: the crates' tables, and the rows about outcomes by computing the definitions. Rests on those tables.
 use mathlib.Core.Path.{refl}
 use Rattle.fields.specs.Fields.{signedOf, bitsOf}
+use Rattle.answers.proofs.Facts as Answers
 use Rattle.machine.specs.Effect.{bit, wrapAdd, both, pick, perform}
 use Rattle.machine.specs.Word.{packed, packedSet, decodeAt, zerosKept, present, admissibleAt}
 use Rattle.machine.specs.Log.{carry, logged, cellsAfter, logFrom, logOf, withoutPublishedFrom, withoutPublished, roundsOf, sumOf, chargeOf}
 use Rattle.machine.proofs.Facts as Machine
 use Rattle.plans.specs.Blocks.{flat}
+use Rattle.plans.specs.Outline.{instructions}
 use Rattle.plans.specs.Method1 as Method1
-use Rattle.plans.specs.Plan.{instructionsOf, planOf, cellsOf, lengthOf}
+use Rattle.plans.specs.Plan.{instructionsOf, planOf, cellsOf, lengthOf, verdictCell}
 use Rattle.plans.proofs.Facts as Plans
 use Rattle.planner.specs.Refusal.{headerRefusal}
 use Rattle.planner.proofs.Facts as Planner
@@ -21,9 +23,10 @@ use Rattle.engine.specs.Run.{verdictOf, outcome}
 use Rattle.facts.specs.Rules.{Rules}
 
 pub rules : Rules
-unfolding signedOf bitsOf bit wrapAdd both pick perform packed packedSet decodeAt zerosKept present admissibleAt carry logged cellsAfter logFrom logOf withoutPublishedFrom withoutPublished roundsOf sumOf chargeOf flat Method1.opening Method1.gather Method1.relax Method1.check Method1.pass Method1.plan instructionsOf planOf cellsOf lengthOf headerRefusal weightOf wordCountOf logLengthOf sizesRefusal shapeGood weightGood wordRefusal wordsRefusal requestRefusal sourceOf laid copied startingCells distanceCell parentCell firstBad logSize runnerRefusal planOutcome verdictOf outcome
+unfolding signedOf bitsOf bit wrapAdd both pick perform packed packedSet decodeAt zerosKept present admissibleAt carry logged cellsAfter logFrom logOf withoutPublishedFrom withoutPublished roundsOf sumOf chargeOf flat instructions Method1.plan instructionsOf planOf cellsOf lengthOf headerRefusal weightOf wordCountOf logLengthOf verdictCell sizesRefusal shapeGood weightGood wordRefusal wordsRefusal requestRefusal sourceOf laid copied startingCells distanceCell parentCell firstBad logSize runnerRefusal planOutcome verdictOf outcome
 rules =
     record {
+      answers = Answers.facts;
       machine = Machine.facts;
       plans = Plans.facts;
       planner = Planner.facts;

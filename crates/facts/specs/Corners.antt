@@ -6,11 +6,11 @@ use mathlib.Core.Option.{none, some}
 use Prim.Native.Nat.{ℕ, _-_, _^_}
 use lib.IntN.{pos, negsuc}
 use lib.ListN.{length, replicate}
+use Rattle.answers.specs.Told.{Told}
 use Rattle.machine.specs.Word.{packed}
 use Rattle.machine.specs.Log.{carried}
 use Rattle.plans.specs.Limits.{far}
 use Rattle.plans.specs.Plan.{headerOf, planOf}
-use Rattle.planner.specs.Refusal.{Told}
 use Rattle.engine.specs.Run.{Lent, Outcome, outcome}
 
 -- Buffers lent with zeros: cells, log words, results.

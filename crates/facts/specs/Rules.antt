@@ -6,11 +6,12 @@ use mathlib.Core.Option.{none}
 use Prim.Native.Nat.{ℕ}
 use lib.IntN.{pos, negsuc}
 use lib.ListN.{replicate}
+use Rattle.answers.specs.Told.{Told}
+use Rattle.answers.specs.Facts as Answers
+use Rattle.answers.specs.Facts.{byNumber, atPlace}
 use Rattle.machine.specs.Facts as Machine
 use Rattle.plans.specs.Facts as Plans
 use Rattle.planner.specs.Facts as Planner
-use Rattle.planner.specs.Facts.{byNumber, atPlace}
-use Rattle.planner.specs.Refusal.{Told}
 use Rattle.requests.specs.Facts as Requests
 use Rattle.runner.specs.Facts as Runner
 use Rattle.runner.specs.Runner.{planOutcome}
@@ -31,11 +32,13 @@ abbrev pub requestAnswered : (request : List ℕ) (cells log distances parents :
 requestAnswered request cells log distances parents = outcome request (nines cells log distances parents) .answer
 
 pub record Rules : Type 0 where
+  -- "Who caused it": numbers and places
+  pub answers : Answers.Facts
   -- "Cell words"
   pub machine : Machine.Facts
   -- "Plan of method 1", "Plan of method 2", and the limits of "Request words"
   pub plans : Plans.Facts
-  -- "Who caused it": numbers, headers, writing a plan
+  -- "Who caused it": headers, writing a plan
   pub planner : Planner.Facts
   -- "Who caused it": requests; intake
   pub requests : Requests.Facts

@@ -1,6 +1,5 @@
 -- Two networks with the same edges: a walk of one is a walk of the other, so are their negative cycles, and `Shortest` of one is that of the other.
 -- Rests on the definitions alone.
-use mathlib.Core.Path.{_≡_}
 use mathlib.Core.Logic.{_↔_}
 use mathlib.Core.List.{List, [], _∷_}
 use Prim.Native.Nat.{ℕ}

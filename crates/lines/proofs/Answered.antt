@@ -1,39 +1,54 @@
 -- From what a run answers and leaves to the text of its outcome.
--- Rests on Fits.
-use mathlib.Core.Path.{_≡_, sym, ap, _∙_}
-use mathlib.Core.Bool.{false}
+-- Rests on Fits and requests' Numbers.
+use mathlib.Core.Path.{_≡_, refl, sym, ap, _∙_}
 use mathlib.Core.List.{List}
-use Prim.Native.Nat.{ℕ, _≤_}
+use mathlib.Core.Option.{Option, none, some}
+use Prim.Native.Nat.{ℕ, zero, suc, _≤_}
 use native.Mathlib.Omega.{arith}
-use lib.Dec.{eqb}
 use lib.IntN.{ℤ}
 use lib.ListN.{length, getD}
-use borrow.Author.Tests.{ne-eqb}
+use Rattle.answers.specs.declared.Refusal.{Refusal}
+use Rattle.answers.specs.Refusal.{placeOf, placeShown}
+use Rattle.answers.specs.Told.{refused, Apart}
+use Rattle.answers.proofs.Apart.{MetApart}
 use Rattle.plans.specs.declared.Header.{Header}
-use Rattle.planner.specs.declared.Refusal.{Refusal}
-use Rattle.planner.specs.Refusal.{number, placeOf, placeShown, refused}
 use Rattle.requests.specs.WithinLimits.{headerIn}
+use Rattle.requests.proofs.Numbers.{request-apart}
 use Rattle.engine.specs.declared.Answer.{Answer}
-use Rattle.engine.specs.Run.{toldByRun, Lent, outcome, Met}
-use Rattle.lines.specs.Texts.{refusalText, toldText, textOf, toldLog, logText}
-use Rattle.lines.proofs.Fits.{numbered, vertices-fit, log-fits}
+use Rattle.engine.specs.declared.Answer.the-variants.{Ran, NegativeCycle, Refused}
+use Rattle.engine.specs.Run.{toldByRun, Lent, refusalOf, verdictOfRun, ranBy, outcomeBy, outcome, Met}
+use Rattle.lines.specs.Texts.{refusalText, toldText, textOf, toldLog, logText, Distinct}
+use Rattle.lines.proofs.Fits.{vertices-fit, log-fits}
 
--- A refusal is no run, and not 12.
-no-run : (r : Refusal) → eqb (number r) 0 ≡ false
-no-run r = ne-eqb (number r) 0 (λ (e : number r ≡ 0). omega (arith, numbered r))
+pub refused-text : (r : Refusal) → Apart r → (h : Header) (ds ps : List ℤ)
+    → refusalText (r .number) (placeShown (placeOf r)) ≡ toldText h (refused r) ds ps
+refused-text r a h ds ps = simp (a .0, a .1)
 
-no-circle : (r : Refusal) → eqb (number r) 12 ≡ false
-no-circle r = ne-eqb (number r) 12 (λ (e : number r ≡ 12). omega (arith, numbered r))
+pub refused-log : (r : Refusal) → Apart r → (log : List ℕ)
+    → refusalText (r .number) (placeShown (placeOf r)) ≡ toldLog (refused r) log
+refused-log r a log = simp (a .0, a .1)
 
-pub refused-text : (r : Refusal) (h : Header) (ds ps : List ℤ)
-    → refusalText (number r) (placeShown (placeOf r)) ≡ toldText h (refused r) ds ps
-refused-text r h ds ps = simp (no-run r, no-circle r)
+-- An answer that tells as the outcome does is told from a run where it is a refusal: it tells no values.
+module _ (request : List ℕ) (lent : Lent) (r : Refusal) where
+  ran-values : (verdict : ℕ) → refused r ≡ ranBy verdict request lent .answer → ⊥
+  ran-values zero e = omega (arith, ap (λ t. length (t .values)) e)
+  ran-values (suc more) e = omega (arith, ap (λ t. length (t .values)) e)
 
-pub refused-log : (r : Refusal) (log : List ℕ) → refusalText (number r) (placeShown (placeOf r)) ≡ toldLog (refused r) log
-refused-log r log = simp (no-run r, no-circle r)
+  told-apart : (met : Option Refusal) → MetApart met → refused r ≡ outcomeBy met request lent .answer → Apart r
+  told-apart none a e = absurd (ran-values (verdictOfRun request lent) e)
+  told-apart (some q) a e = rw (ap (λ t. t .number) e) (a .apart q refl)
+
+told-distinct : (request : List ℕ) (lent : Lent) (a : Answer) → toldByRun a ≡ outcome request lent .answer → Distinct a
+unfolding outcome
+told-distinct request lent (Ran r) e = tt
+told-distinct request lent (NegativeCycle r) e = tt
+told-distinct request lent (Refused r) e = told-apart request lent r (refusalOf request lent) (request-apart request _ _ _ _) e
 
 module _ (request : List ℕ) (lent : Lent) (a : Answer) (cells : List ℤ) (log : List ℕ) (ds ps : List ℤ)
     (m : Met (outcome request lent) a cells log ds ps) where
+  pub distinct : Distinct a
+  distinct = told-distinct request lent a (m .answers)
+
   pub few-vertices : (h : Header) → h ≡ headerIn request → toldByRun a .number ≡ 0 → h .vertices ≤ length ds
   few-vertices h e z =
       rw (e, m .distances-left) (vertices-fit request lent (ap (λ t. t .number) (sym (m .answers)) ∙ z))

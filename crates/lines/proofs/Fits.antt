@@ -1,35 +1,22 @@
 -- What an outcome tells fits the lent buffers: it has no more vertices than they have distances, and no longer a log.
--- Rests on the laws of blocks.
-use mathlib.Core.Path.{_≡_}
+-- Rests on the laws of blocks and requests' Numbers.
+use mathlib.Core.Path.{_≡_, refl}
+use mathlib.Core.Bool.{true≢false}
 use mathlib.Core.List.{List, [], _∷_}
 use mathlib.Core.Option.{Option, none, some}
-use Prim.Native.Nat.{ℕ, zero, suc, _<_, _≤_}
+use Prim.Native.Nat.{ℕ, zero, suc, _≤_}
 use native.Mathlib.Omega.{arith}
 use lib.IntN.{ℤ}
 use lib.ListN.{length, getD, drop, length-append}
+use Rattle.answers.specs.declared.Refusal.{Refusal}
+use Rattle.answers.specs.Buffers.{overwritten}
+use Rattle.answers.proofs.Apart.{MetApart}
 use Rattle.plans.specs.Blocks.{flat}
 use Rattle.plans.proofs.Blocks.{ones-length}
-use Rattle.planner.specs.declared.Refusal.{Refusal}
-use Rattle.planner.specs.declared.Refusal.the-variants.{Method, Vertices, Edges, Source, Words, Cells, Log, Results, Operation, Edge, Weight}
-use Rattle.planner.specs.Refusal.{number}
-use Rattle.planner.specs.Written.{overwritten}
 use Rattle.requests.specs.Intake.{copied}
 use Rattle.requests.specs.WithinLimits.{headerIn}
+use Rattle.requests.proofs.Numbers.{request-apart}
 use Rattle.engine.specs.Run.{Lent, logOfRun, verdictOfRun, refusalOf, ranBy, outcomeBy, outcome}
-
--- A refusal's number is neither that of a run nor 12.
-pub numbered : (r : Refusal) → (0 < number r) × (number r < 12)
-numbered Method = (omega arith, omega arith)
-numbered Vertices = (omega arith, omega arith)
-numbered Edges = (omega arith, omega arith)
-numbered Source = (omega arith, omega arith)
-numbered Words = (omega arith, omega arith)
-numbered Cells = (omega arith, omega arith)
-numbered Log = (omega arith, omega arith)
-numbered Results = (omega arith, omega arith)
-numbered (Operation place) = (omega arith, omega arith)
-numbered (Edge place) = (omega arith, omega arith)
-numbered (Weight place) = (omega arith, omega arith)
 
 copied-length : (count : ℕ) (f : ℕ → ℤ) (buffer : List ℤ) → count ≤ length (copied count f buffer)
 unfolding copied
@@ -45,14 +32,14 @@ module _ (request : List ℕ) (lent : Lent) where
   ran-vertices zero e = copied-length _ _ (lent .distances)
   ran-vertices (suc more) e = let no : ⊥ = omega arith in absurd no
 
-  vertices-by : (met : Option Refusal) → outcomeBy met request lent .answer .number ≡ 0
+  vertices-by : (met : Option Refusal) → MetApart met → outcomeBy met request lent .answer .number ≡ 0
       → headerIn request .vertices ≤ length (outcomeBy met request lent .distances)
-  vertices-by none e = ran-vertices (verdictOfRun request lent) e
-  vertices-by (some r) e = let no : ⊥ = omega (arith, numbered r) in absurd no
+  vertices-by none a e = ran-vertices (verdictOfRun request lent) e
+  vertices-by (some r) a e = absurd (true≢false (rw e at (a .apart r refl .0)))
 
   pub vertices-fit : outcome request lent .answer .number ≡ 0 → headerIn request .vertices ≤ length (outcome request lent .distances)
   unfolding outcome
-  vertices-fit = vertices-by (refusalOf request lent)
+  vertices-fit = vertices-by (refusalOf request lent) (request-apart request _ _ _ _)
 
   ran-log : (verdict : ℕ) → getD (ranBy verdict request lent .answer .values) 1 0 ≤ length (ranBy verdict request lent .log)
   ran-log zero = overwritten-length (logOfRun request lent) (lent .log)

@@ -8,14 +8,17 @@ use lib.IntN.{ℤ, pos}
 use lib.ListN.{getD}
 use lib.Signed.{ltZ}
 use Rattle.text.specs.Text.{dash, decimal, signed, hexadecimal, lineOf, numbersLine}
+use Rattle.answers.specs.declared.Place.{Place}
+use Rattle.answers.specs.declared.Place.the-variants.{At, Nowhere}
+use Rattle.answers.specs.Refusal.{placeShown}
+use Rattle.answers.specs.Told.{Told, Apart}
 use Rattle.machine.specs.Effect.{eqZ}
 use Rattle.plans.specs.Blocks.{flat}
 use Rattle.plans.specs.Limits.{far}
 use Rattle.plans.specs.declared.Header.{Header}
-use Rattle.planner.specs.declared.Place.{Place}
-use Rattle.planner.specs.declared.Place.the-variants.{At, Nowhere}
-use Rattle.planner.specs.Refusal.{Told, placeShown}
 use Rattle.requests.specs.WithinLimits.{headerIn}
+use Rattle.engine.specs.declared.Answer.{Answer}
+use Rattle.engine.specs.declared.Answer.the-variants.{Ran, NegativeCycle, Refused}
 use Rattle.engine.specs.Run.{Outcome}
 
 -- ---- `yard distance parent`
@@ -55,6 +58,12 @@ abbrev pub refusalText : (number : ℕ) → Place → List ℕ
 refusalText number place = refusedWord ++ numbersLine (number ∷ placeIfAny place)
 
 -- ---- an answer
+
+-- A refusal is told from a run by its number.
+abbrev pub Distinct : Answer → Type 0
+Distinct (Ran r) = Unit {0}
+Distinct (NegativeCycle r) = Unit {0}
+Distinct (Refused r) = Apart r
 
 abbrev pub toldText : Header → Told → (distances parents : List ℤ) → List ℕ
 toldText h t distances parents =

@@ -1,15 +1,15 @@
 // The text of an answer, and of a run's log, in a lent buffer.
-// Rests on engine and text.
+// Rests on answers, engine and text.
+use answers::Place;
 use engine::Answer;
 use engine::Report;
-use planner::Place;
 use plans::Header;
 ghost use mathlib.Core.Path.{_≡_};
 ghost use Prim.Native.Nat.{_+_, _*_, _≤_};
 ghost use lib.ListN.{length, getD};
 ghost use Rattle.text.specs.Text.{Put};
 ghost use Rattle.engine.specs.Run.{valuesOf, toldByRun};
-ghost use Rattle.lines.specs.Texts.{distanceText, parentText, rowText, rowsText, resultsText, refusalText, toldText, wordsText, toldLog};
+ghost use Rattle.lines.specs.Texts.{distanceText, parentText, rowText, rowsText, resultsText, refusalText, toldText, wordsText, toldLog, Distinct};
 
 // ---- an answer
 
@@ -96,17 +96,13 @@ pub fn put_answer(
     distances: &[i64],
     parents: &[i64],
 ) -> usize
-    requires { ⌜ (2206 ≤ length (now buffer)) × (length (now distances) ≡ 32) × (length (now parents) ≡ 32) × (toldByRun answer .number ≡ 0 → h .vertices ≤ 32) ⌝ }
+    requires { ⌜ (2206 ≤ length (now buffer)) × (length (now distances) ≡ 32) × (length (now parents) ≡ 32) × (toldByRun answer .number ≡ 0 → h .vertices ≤ 32) × Distinct answer ⌝ }
     ensures { λ n. ⌜ Put 2206 (toldText h (toldByRun answer) (now (distances .entry)) (now (parents .entry))) (now (buffer .entry)) (now (buffer .exit)) 0 n ⌝ }
 {
     match answer {
         Answer::Ran(report) => put_results(buffer, h, report, distances, parents),
         Answer::NegativeCycle(_) => put_refusal(buffer, 12, Place::Nowhere),
-        Answer::Refused(refusal) => put_refusal(
-            buffer,
-            planner::number_of(refusal),
-            planner::place_of(refusal),
-        ),
+        Answer::Refused(refusal) => put_refusal(buffer, refusal.number, refusal.place_of()),
     }
 }
 
@@ -129,16 +125,12 @@ fn put_words(buffer: &mut [u8], words: &[u64], count: usize) -> usize
 
 // What `host_log` prints: the log of a request that ran, with a loss circle too, or the refusal.
 pub fn put_log(buffer: &mut [u8], answer: Answer, log: &[u64]) -> usize
-    requires { ⌜ (139264 ≤ length (now buffer)) × (length (now log) ≡ 8192) × (getD (toldByRun answer .values) 1 0 ≤ 8192) ⌝ }
+    requires { ⌜ (139264 ≤ length (now buffer)) × (length (now log) ≡ 8192) × (getD (toldByRun answer .values) 1 0 ≤ 8192) × Distinct answer ⌝ }
     ensures { λ n. ⌜ Put 139264 (toldLog (toldByRun answer) (now (log .entry))) (now (buffer .entry)) (now (buffer .exit)) 0 n ⌝ }
 {
     match answer {
         Answer::Ran(report) => put_words(buffer, log, report.log_length),
         Answer::NegativeCycle(report) => put_words(buffer, log, report.log_length),
-        Answer::Refused(refusal) => put_refusal(
-            buffer,
-            planner::number_of(refusal),
-            planner::place_of(refusal),
-        ),
+        Answer::Refused(refusal) => put_refusal(buffer, refusal.number, refusal.place_of()),
     }
 }

@@ -14,20 +14,13 @@ use lib.Seq.{getD-set-same, getD-set-other}
 use lib.Signed.{ltZ}
 use Rattle.machine.specs.Instruction.{Instruction, SET, COPY, ADD, LESS, EQUAL, BOTH, MOVEIF, OPEN, addresses, All}
 use Rattle.machine.specs.Effect.{Effect, writes, nothing, effect, eqZ, bit, both, pick, wrapAdd, cellAt, written, perform}
+use Rattle.plans.specs.Outline.{Outline, start, instructions}
+use Rattle.plans.proofs.Outlines.{renamed, plan-renamed}
+use Rattle.plans.proofs.Addresses.{Keeps, Kept, keeps}
 use Rattle.graph.proofs.Test.{by-test}
 use Rattle.methods.specs.Bank.{performAll, summands, asked, Summed}
-use Rattle.methods.proofs.Stores.{Claim, after, Runs}
-
--- The instruction at other addresses.
-abbrev pub renamed : {A B : Type 0} (g : A → B) → Instruction A → Instruction B
-renamed g (SET d c) = SET (g d) c
-renamed g (COPY d a) = COPY (g d) (g a)
-renamed g (ADD d a b) = ADD (g d) (g a) (g b)
-renamed g (LESS d a b) = LESS (g d) (g a) (g b)
-renamed g (EQUAL d a b) = EQUAL (g d) (g a) (g b)
-renamed g (BOTH d a b) = BOTH (g d) (g a) (g b)
-renamed g (MOVEIF d a b) = MOVEIF (g d) (g a) (g b)
-renamed g (OPEN a) = OPEN (g a)
+use Rattle.methods.proofs.Steps.{Claim, Runs}
+use Rattle.methods.proofs.Stores.{after, numbers}
 
 -- Names in a bank: each good one has a place below `size`, and two of them have one place only where they are the same.
 pub record Layout (A : Type 0) (same : A → A → Bool) : Type 1 where
@@ -120,27 +113,36 @@ module _ {A : Type 0} (same : A → A → Bool) (L : Layout A same) where
         })
 
     -- .. one of which R holds.
-    pub record Ended (R : Claim A) (left : List ℤ) : Type 0 where
+    pub record Ended (R : Claim (A → ℤ)) (left : List ℤ) : Type 0 where
       pub store : A → ℤ
       pub meets : R store
       pub mirrored : Mirrors store left
 
-    module _ (Q : ℤ → ℤ → Type 0) (R : Claim A) where
-      carried : (is : List (Instruction A)) → All (λ i. All Good (addresses i)) is
-          → (s : A → ℤ) (cells : List ℤ) → Mirrors s cells → Runs same Q is R s
+    module _ (Q : ℤ → ℤ → Type 0) (R : Claim (A → ℤ)) where
+      carried : (is : List (Instruction A)) → All (Keeps Good (λ z. Unit {0})) is
+          → (s : A → ℤ) (cells : List ℤ) → Mirrors s cells → Runs (numbers same Q) is R s
           → Summed Q (map (renamed place) is) cells × Ended R (performAll (map (renamed place) is) cells)
       unfolding performAll Summed perform
       carried [] good s cells h r = (tt, record { store = s; meets = r; mirrored = h })
       carried (i ∷ is) good s cells h r =
-          let alike = effect-alike s (cellAt cells) (h .cell) i (good .0) in
-          asked-alike s (cellAt cells) (h .cell) Q (summands i) (summands (renamed place i)) (summands-alike i (good .0))
+          let alike = effect-alike s (cellAt cells) (h .cell) i (good .0 .0) in
+          asked-alike s (cellAt cells) (h .cell) Q (summands i) (summands (renamed place i)) (summands-alike i (good .0 .0))
           (carried is (good .1) (after same (effect i s) s) _ (step (effect i s) _ alike s cells h)) r
 
-      -- `is` are the instructions `ps` at their places.
-      pub on-bank : (ps : List (Instruction A)) → All (λ i. All Good (addresses i)) ps
-          → (is : List (Instruction ℕ)) → map (renamed place) ps ≡ is
-          → Runs same Q ps R (λ a. cellAt first (place a)) → Summed Q is first × Ended R (performAll is first)
-      on-bank ps good is e r =
-          subst (λ is. Summed Q is first × Ended R (performAll is first)) e
-          (carried ps good (λ a. cellAt first (place a)) first
-          (record { long = refl; cell = λ a g. refl; rest = λ k l. refl }) r)
+      -- An outline by names, and at their places.
+      module _ (name : (region place : ℕ) → A) (there : (region place : ℕ) → ℕ)
+          (placed : (r p : ℕ) → place (name r p) ≡ there r p) (far : ℤ) (n m source : ℕ) (o : Outline) where
+        abbrev by-names : List (Instruction A)
+        by-names = instructions name far n m source o start
+
+        abbrev at-places : List (Instruction ℕ)
+        at-places = instructions there far n m source o start
+
+        pub on-bank : Kept Good (λ z. Unit {0}) name far n m o → Runs (numbers same Q) by-names R (λ a. cellAt first (place a))
+            → Summed Q at-places first × Ended R (performAll at-places first)
+        on-bank kept r =
+            subst (λ is. Summed Q is first × Ended R (performAll is first))
+            (plan-renamed place name far n m source o start
+            ∙ ap (λ name. instructions name far n m source o start) (λ i r p. placed r p i))
+            (carried by-names (keeps Good (λ z. Unit {0}) name far n m source o kept) (λ a. cellAt first (place a)) first
+            (record { long = refl; cell = λ a g. refl; rest = λ k l. refl }) r)

@@ -1,10 +1,9 @@
--- Method 1's blocks for an edge on named stores: its relaxation and its check are those of Bellman-Ford.
+-- Method 1's lines for an edge on named stores: its relaxation and its check are those of Bellman-Ford.
 -- Rests on stores, names, bits and filled regions.
 use mathlib.Core.Path.{_≡_, refl, ap, _∙_}
 use mathlib.Core.Logic.{_⊎_, inl, inr}
 use mathlib.Core.Bool.{Bool, _&&_, _||_}
-use mathlib.Core.List.{List}
-use Prim.Native.Nat.{ℕ, suc, _+_, _^_, _<_, _≤_}
+use Prim.Native.Nat.{ℕ, _+_, _^_, _<_, _≤_}
 use native.Mathlib.Omega.{arith}
 use borrow.Author.Tests.{eqb-true}
 use lib.Dec.{eqb}
@@ -12,11 +11,13 @@ use lib.IntN.{ℤ, pos, natAbs, _+ℤ_}
 use lib.Signed.{ltZ}
 use Rattle.machine.specs.Instruction.{Instruction}
 use Rattle.machine.specs.Effect.{bit, wrapAdd}
-use Rattle.plans.specs.Method1.{Places, select, gatherParts, gather, update, test, relaxParts, relax, checkParts, check}
+use Rattle.plans.specs.Outline.{middle, vertices, fixed, counted, set, Outline, end, line, run, _▸_, counted-to, start, instructions}
+use Rattle.plans.specs.Method1.{Places, address, gather, update, test, relax, check}
 use Rattle.graph.specs.Walk.{Edge}
 use Rattle.graph.specs.BellmanFord.{State, offer, gain, relaxed}
 use Rattle.methods.specs.Method1.{Limited}
-use Rattle.methods.proofs.Stores.{Runs, runs-concat, loop}
+use Rattle.methods.proofs.Steps.{Claim, Kind, Runs, loop}
+use Rattle.methods.proofs.Stores.{numbers}
 use Rattle.methods.proofs.Names.{Name, same, Store}
 use Rattle.methods.proofs.Bits.{eqb-sym, both-bit, pick-bit, raised, and-at, sum-exact}
 use Rattle.methods.proofs.Filled.{upto, upto-zero, upto-here, upto-all, upto-suc}
@@ -50,22 +51,26 @@ module _ (far limit : ℕ) where
   near-exact fits x w (inl e, l) = sum-exact x w (rw e (omega arith))
   near-exact fits x w (inr h, l) = sum-exact x w (omega arith)
 
-  abbrev pub Does : List (Instruction Name) → (Store → Type 0) → Store → Type 0
-  Does = Runs same Sum
+  -- The instructions as steps on named stores.
+  abbrev pub steps : Kind (Instruction Name) Store
+  steps = numbers same Sum
 
 -- ---- what a store holds
 
+-- The edges as intake lays them.
+abbrev pub Given : (edge : ℕ → Edge) (m : ℕ) → Store → Type 0
+Given edge m s =
+    record {
+      from : (i : ℕ) → i < m → s (from i) ≡ pos (edge i .from);
+      to : (i : ℕ) → i < m → s (to i) ≡ pos (edge i .to);
+      weight : (i : ℕ) → i < m → s (weight i) ≡ edge i .weight;
+    }
+
 module _ (far : ℕ) (edge : ℕ → Edge) (n m : ℕ) where
-  -- What no block writes. A record type with no name: a proof for a store is, by computation, one for the store after other writes.
+  -- What no pass writes. A record type with no name: a proof for a store is, by computation, one for the store after other writes.
   abbrev pub Fixed : Store → Type 0
   Fixed s =
-      record {
-        from : (i : ℕ) → i < m → s (from i) ≡ pos (edge i .from);
-        to : (i : ℕ) → i < m → s (to i) ≡ pos (edge i .to);
-        weight : (i : ℕ) → i < m → s (weight i) ≡ edge i .weight;
-        vertex : (v : ℕ) → v < n → s (Y v) ≡ pos v;
-        far : s (X 0) ≡ pos far;
-      }
+      record { edges : Given edge m s; vertex : (v : ℕ) → v < n → s (Y v) ≡ pos v; far : s (X 0) ≡ pos far }
 
   -- The edges, the state and the flag.
   abbrev pub Holds : State → ℤ → Store → Type 0
@@ -77,10 +82,14 @@ module _ (far : ℕ) (edge : ℕ → Edge) (n m : ℕ) where
         flag : s (X 7) ≡ flag;
       }
 
-module _ (far limit : ℕ) (edge : ℕ → Edge) (n m : ℕ) (limited : Limited limit edge n m) (fits : far + limit < 2 ^ 63)
+module _ (far limit : ℕ) (edge : ℕ → Edge) (n m source : ℕ) (limited : Limited limit edge n m) (fits : far + limit < 2 ^ 63)
     (st : State) (i : ℕ) (l : i < m) (near : Near far limit (st .dist (edge i .from))) where
   abbrev u : ℕ
   u = edge i .from
+
+  -- The outline's instructions for edge i.
+  abbrev Does : Outline → Claim Store → Claim Store
+  Does o = Runs (steps far limit) (instructions (address names) (pos far) n m source o (counted-to middle i start))
 
   -- ---- the from-vertex's distance, the offer, and whether the from-vertex is reached
 
@@ -92,28 +101,23 @@ module _ (far limit : ℕ) (edge : ℕ → Edge) (n m : ℕ) (limited : Limited 
     Gathered t =
         Holds far edge n m st flag t × (t (X 2) ≡ offer edge i st) × (t (X 4) ≡ bit (ltZ (st .dist u) (pos far)))
 
-    select-step : (k : ℕ) (t : Store) → k < n → Selected k t → Does far limit (select names (pos far) n i k) (Selected (suc k)) t
-    select-step k t lk (h, x) = (
-      h,
-      simp (pick-bit, h .fixed .from i l, h .fixed .vertex k lk, h .dist k lk, x, eqb-sym u k)
-          (upto-suc (st .dist) (λ v. pos far) k u),
-    )
-
-    gather-runs : (R : Store → Type 0) (s : Store) → Holds far edge n m st flag s → ((t : Store) → Gathered t → R t)
-        → Does far limit (gather names (pos far) n i) R s
-    unfolding gather
-    gather-runs R s h then =
-        runs-concat same (Sum far limit) (gatherParts names (pos far) n i) R s
-        (loop same (Sum far limit) Selected (select names (pos far) n i) n _ _
-        (h, h .fixed .far ∙ upto-zero (st .dist) (λ v. pos far) u)
-        select-step
+    gather-runs : (rest : Outline) (R : Claim Store) (s : Store) → Holds far edge n m st flag s
+        → ((t : Store) → Gathered t → Does rest R t) → Does (gather rest) R s
+    unfolding instructions
+    gather-runs rest R s h then =
+        loop (steps far limit) Selected n _ _ _ (h, h .fixed .far ∙ upto-zero (st .dist) (λ v. pos far) u)
+        (λ k t lk (h, x). (
+          h,
+          simp (pick-bit, h .fixed .edges .from i l, h .fixed .vertex k lk, h .dist k lk, x, eqb-sym u k)
+              (upto-suc (st .dist) (λ v. pos far) k u),
+        ))
         (λ t (h, x).
         let e : t (X 1) ≡ st .dist u = x ∙ upto-all (st .dist) (λ v. pos far) n u (limited .from-below i l) in
         let sum : Sum far limit (st .dist u) (edge i .weight) = (near, limited .weight-most i l) in
         let exact = near-exact far limit fits (st .dist u) (edge i .weight) sum in (
-          rw (e, h .fixed .weight i l) sum,
-          then _ (h, simp (e, h .fixed .weight i l) exact, simp (e, h .fixed .far)),
-        )))
+          rw (e, h .fixed .edges .weight i l) sum,
+          then _ (h, simp (e, h .fixed .edges .weight i l) exact, simp (e, h .fixed .far)),
+        ))
 
   -- The test made at vertex k: only the to-vertex can gain.
   test-at : (k : ℕ) → ((ltZ (offer edge i st) (st .dist k) && ltZ (st .dist u) (pos far)) && eqb (edge i .to) k)
@@ -137,9 +141,24 @@ module _ (far limit : ℕ) (edge : ℕ → Edge) (n m : ℕ) (limited : Limited 
         × (t (X 4) ≡ bit (ltZ (st .dist u) (pos far)))
         × (t (X 3) ≡ pos i)
 
-    update-step : (k : ℕ) (t : Store) → k < n → Updated k t → Does far limit (update names (pos far) n i k) (Updated (suc k)) t
-    update-step k t lk (h, x2, x4, x3) =
-        let to-k = h .fixed .to i l in
+    pub relax-runs : (s : Store) → Holds far edge n m st flag s → Does relax (Holds far edge n m next flag) s
+    unfolding instructions
+    relax-runs s h =
+        gather-runs flag (line (set (6, fixed 3) (counted middle)) ▸ run vertices update ▸ end) _ s h
+        (λ t (h, x2, x4).
+        loop (steps far limit) Updated n _ _ _ (
+          record {
+            fixed = h .fixed;
+            dist = λ v lv. h .dist v lv ∙ upto-zero (next .dist) (st .dist) v;
+            parent = λ v lv. h .parent v lv ∙ upto-zero (next .parent) (st .parent) v;
+            flag = h .flag;
+          },
+          x2,
+          x4,
+          refl,
+        )
+        (λ k t lk (h, x2, x4, x3).
+        let to-k = h .fixed .edges .to i l in
         let y = h .fixed .vertex k lk in
         let d : t (D k) ≡ st .dist k = h .dist k lk ∙ upto-here (next .dist) (st .dist) k in
         let p : t (P k) ≡ st .parent k = h .parent k lk ∙ upto-here (next .parent) (st .parent) k in (
@@ -158,34 +177,14 @@ module _ (far limit : ℕ) (edge : ℕ → Edge) (n m : ℕ) (limited : Limited 
           x2,
           x4,
           x3,
-        )
-
-    pub relax-runs : (s : Store) → Holds far edge n m st flag s
-        → Does far limit (relax names (pos far) n i) (Holds far edge n m next flag) s
-    unfolding relax
-    relax-runs s h =
-        runs-concat same (Sum far limit) (relaxParts names (pos far) n i) (Holds far edge n m next flag) s
-        (gather-runs flag _ s h
-        (λ t (h, x2, x4).
-        loop same (Sum far limit) Updated (update names (pos far) n i) n _ _ (
-          record {
-            fixed = h .fixed;
-            dist = λ v lv. h .dist v lv ∙ upto-zero (next .dist) (st .dist) v;
-            parent = λ v lv. h .parent v lv ∙ upto-zero (next .parent) (st .parent) v;
-            flag = h .flag;
-          },
-          x2,
-          x4,
-          refl,
-        )
-        update-step
+        ))
         (λ t (h, _, _, _).
         record {
           fixed = h .fixed;
           dist = λ v lv. h .dist v lv ∙ upto-all (next .dist) (st .dist) n v lv;
           parent = λ v lv. h .parent v lv ∙ upto-all (next .parent) (st .parent) n v lv;
           flag = h .flag;
-        })))
+        }))
 
   -- ---- the check: the flag is raised where the edge has a gain
 
@@ -199,29 +198,25 @@ module _ (far limit : ℕ) (edge : ℕ → Edge) (n m : ℕ) (limited : Limited 
     abbrev Tested : ℕ → Store → Type 0
     Tested k t = Gathered (upto k new old (edge i .to)) t
 
-    test-step : (k : ℕ) (t : Store) → k < n → Tested k t → Does far limit (test names (pos far) n i k) (Tested (suc k)) t
-    test-step k t lk (h, x2, x4) = (
-      record {
-        fixed = h .fixed;
-        dist = h .dist;
-        parent = h .parent;
-        flag =
-            simp (both-bit, pick-bit, x2, x4, h .fixed .to i l, h .fixed .vertex k lk, h .dist k lk, h .flag, test-at k)
-            (raised (gain edge (pos far) i st) b (eqb (edge i .to) k) (upto k new old (edge i .to))
-            (λ e. ap (upto k new old) (eqb-true (edge i .to) k e) ∙ upto-here new old k)
-            ∙ rw (eqb-sym (edge i .to) k) (upto-suc new old k (edge i .to)));
-      },
-      x2,
-      x4,
-    )
-
     pub check-runs : (s : Store) → Holds far edge n m st (bit b) s
-        → Does far limit (check names (pos far) n i) (Holds far edge n m st (bit (b || gain edge (pos far) i st))) s
-    unfolding check
+        → Does check (Holds far edge n m st (bit (b || gain edge (pos far) i st))) s
+    unfolding instructions
     check-runs s h =
-        runs-concat same (Sum far limit) (checkParts names (pos far) n i) _ s
-        (gather-runs (bit b) _ s h
+        gather-runs (bit b) (run vertices test ▸ end) _ s h
         (λ t (h, x2, x4).
-        loop same (Sum far limit) Tested (test names (pos far) n i) n _ _ (rw (← upto-zero new old (edge i .to)) h, x2, x4)
-        test-step
-        (λ t (h, _, _). rw (← upto-all new old n (edge i .to) (limited .to-below i l)) h)))
+        loop (steps far limit) Tested n _ _ _ (rw (← upto-zero new old (edge i .to)) h, x2, x4)
+        (λ k t lk (h, x2, x4). (
+          record {
+            fixed = h .fixed;
+            dist = h .dist;
+            parent = h .parent;
+            flag =
+                simp (both-bit, pick-bit, x2, x4, h .fixed .edges .to i l, h .fixed .vertex k lk, h .dist k lk, h .flag, test-at k)
+                (raised (gain edge (pos far) i st) b (eqb (edge i .to) k) (upto k new old (edge i .to))
+                (λ e. ap (upto k new old) (eqb-true (edge i .to) k e) ∙ upto-here new old k)
+                ∙ rw (eqb-sym (edge i .to) k) (upto-suc new old k (edge i .to)));
+          },
+          x2,
+          x4,
+        ))
+        (λ t (h, _, _). rw (← upto-all new old n (edge i .to) (limited .to-below i l)) h))

@@ -1,4 +1,5 @@
 pub mod Sums
+pub mod Steps
 pub mod Stores
 pub mod Banks
 pub mod Names

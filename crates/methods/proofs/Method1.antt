@@ -2,19 +2,17 @@
 -- Rests on passes, banks and Bellman-Ford.
 use mathlib.Core.Path.{_≡_, sym, ap, _∙_}
 use mathlib.Core.Logic.{Iff·trans, _≢_, inl, inr}
-use mathlib.Core.List.{List, [], _∷_, map, map-append}
+use mathlib.Core.List.{List, [], _∷_}
 use Prim.Native.Nat.{ℕ, suc, _-_, _*_, _<_, _≤_}
 use native.Mathlib.Omega.{arith}
 use lib.Dec.{lit<}
 use lib.IntN.{ℤ, pos, _+ℤ_}
 use lib.ListN.{length}
 use lib.Signed.{_<ℤ_}
-use Rattle.machine.specs.Instruction.{addresses, All}
 use Rattle.machine.specs.Effect.{bit, cellAt}
 use Rattle.plans.specs.Method1 as Method1
-use Rattle.plans.specs.Method1.{Places, places, opening, gather, relax, check, pass}
-use Rattle.plans.proofs.Blocks.{all-weaken}
-use Rattle.plans.proofs.Addresses.{Keeps, plan1-keeps}
+use Rattle.plans.specs.Method1.{places, address, outline}
+use Rattle.plans.proofs.Outlines.{by-region}
 use Rattle.graph.specs.Walk.{Edge, Below}
 use Rattle.graph.specs.BellmanFord.{network, numbered, State, bellmanFord, slack}
 use Rattle.graph.proofs.Int.{arithℤ, abs-add, le-abs}
@@ -23,51 +21,19 @@ use Rattle.graph.proofs.BellmanFord.{negative-cycle, no-cycle, shortest}
 use Rattle.methods.specs.Bank.{performAll, Summed}
 use Rattle.methods.specs.Method1.{Room, Laid, Solved, plan}
 use Rattle.methods.proofs.Sums.{summed-map}
-use Rattle.methods.proofs.Banks.{renamed, Layout, Ended, on-bank}
-use Rattle.methods.proofs.Names.{Name, same, Store, regions, map-flat}
+use Rattle.methods.proofs.Banks.{Layout, Ended, on-bank}
+use Rattle.methods.proofs.Names.{Name, same, Store, regions}
 use Rattle.methods.proofs.Bits.{bit-one, bit-zero}
-use Rattle.methods.proofs.Edges.{names, Sum, near-exact, Holds}
-use Rattle.methods.proofs.Passes.{Given, plan-runs}
+use Rattle.methods.proofs.Edges.{names, Sum, near-exact, Given, Holds}
+use Rattle.methods.proofs.Passes.{plan-runs}
 
 -- ---- the plan by names, at its places
 
 abbrev layout : (n m : ℕ) → Layout Name same
 layout n m = regions (m ∷ m ∷ m ∷ n ∷ n ∷ n ∷ 8 ∷ [])
 
--- g takes the places c to the places d.
-record Moved {A B : Type 0} (g : A → B) (c : Places A) (d : Places B) : Type 0 where
-  from : (i : ℕ) → g (c .from i) ≡ d .from i
-  to : (i : ℕ) → g (c .to i) ≡ d .to i
-  weight : (i : ℕ) → g (c .weight i) ≡ d .weight i
-  D : (v : ℕ) → g (c .D v) ≡ d .D v
-  P : (v : ℕ) → g (c .P v) ≡ d .P v
-  Y : (v : ℕ) → g (c .Y v) ≡ d .Y v
-  X : (j : ℕ) → g (c .X j) ≡ d .X j
-
-module _ {A B : Type 0} (g : A → B) (c : Places A) (d : Places B) (e : Moved g c d) (far : ℤ) (n : ℕ) where
-  gather-moved : (i : ℕ) → map (renamed g) (gather c far n i) ≡ gather d far n i
-  unfolding gather
-  gather-moved i = simp (map-append, map-flat, e .from, e .weight, e .D, e .Y, e .X)
-
-  relax-moved : (i : ℕ) → map (renamed g) (relax c far n i) ≡ relax d far n i
-  unfolding relax
-  relax-moved i = simp (map-append, map-flat, gather-moved, e .to, e .D, e .P, e .Y, e .X)
-
-  check-moved : (i : ℕ) → map (renamed g) (check c far n i) ≡ check d far n i
-  unfolding check
-  check-moved i = simp (map-append, map-flat, gather-moved, e .to, e .D, e .Y, e .X)
-
-  plan-moved : (m source : ℕ) → map (renamed g) (Method1.plan c far n m source) ≡ Method1.plan d far n m source
-  unfolding Method1.plan opening pass
-  plan-moved m source = simp (map-append, map-flat, relax-moved, check-moved, e .D, e .P, e .Y, e .X)
-
-placed : (n m : ℕ) → Moved (layout n m .place) names (places n m)
-placed n m = omega arith
-
-good : (far : ℤ) (n m source : ℕ) → All (λ i. All (layout n m .Good) (addresses i)) (Method1.plan names far n m source)
-good far n m source =
-    all-weaken (Keeps (layout n m .Good) (λ z. Unit {0})) _ (λ i h. h .0) (Method1.plan names far n m source)
-    (plan1-keeps (layout n m .Good) (λ z. Unit {0}) names far n m (omega arith) (omega arith) source)
+placed : (n m r p : ℕ) → layout n m .place (address names r p) ≡ address (places n m) r p
+placed n m = by-region 7 _ (omega arith)
 
 -- ---- the theorem
 
@@ -95,25 +61,26 @@ module _ (far limit : ℕ) (edge : ℕ → Edge) (n m source : ℕ) (cells : Lis
   given : Given edge m (λ a. cellAt cells (layout n m .place a))
   given =
       record {
-        from = λ i l. ap (cellAt cells) (placed n m .from i) ∙ laid .from i l;
-        to = λ i l. ap (cellAt cells) (placed n m .to i) ∙ laid .to i l;
-        weight = λ i l. ap (cellAt cells) (placed n m .weight i) ∙ laid .weight i l;
+        from = λ i l. ap (cellAt cells) (placed n m 0 i) ∙ laid .from i l;
+        to = λ i l. ap (cellAt cells) (placed n m 1 i) ∙ laid .to i l;
+        weight = λ i l. ap (cellAt cells) (placed n m 2 i) ∙ laid .weight i l;
       }
 
   ran : Summed (Sum far limit) (plan far n m source) cells × Ended same (layout n m) cells enough End left
+  unfolding Method1.plan
   ran =
-      on-bank same (layout n m) cells enough (Sum far limit) End (Method1.plan names (pos far) n m source)
-      (good (pos far) n m source) (plan far n m source) (plan-moved _ names (places n m) (placed n m) (pos far) n m source)
+      on-bank same (layout n m) cells enough (Sum far limit) End (address names) (address (places n m)) (placed n m)
+      (pos far) n m source outline (search arith)
       (plan-runs far limit edge n m source room (laid .limited) _ given)
 
   flag : cellAt left (places n m .X 7) ≡ bit (slack edge (pos far) m final)
-  flag = ap (cellAt left) (sym (placed n m .X 7)) ∙ ran .1 .mirrored .cell (names .X 7) (lit< tt) ∙ ran .1 .meets .flag
+  flag = ap (cellAt left) (sym (placed n m 6 7)) ∙ ran .1 .mirrored .cell (names .X 7) (lit< tt) ∙ ran .1 .meets .flag
 
   dist : (v : ℕ) → v < n → cellAt left (places n m .D v) ≡ final .dist v
-  dist v l = ap (cellAt left) (sym (placed n m .D v)) ∙ ran .1 .mirrored .cell (names .D v) l ∙ ran .1 .meets .dist v l
+  dist v l = ap (cellAt left) (sym (placed n m 3 v)) ∙ ran .1 .mirrored .cell (names .D v) l ∙ ran .1 .meets .dist v l
 
   parent : (v : ℕ) → v < n → cellAt left (places n m .P v) ≡ final .parent v
-  parent v l = ap (cellAt left) (sym (placed n m .P v)) ∙ ran .1 .mirrored .cell (names .P v) l ∙ ran .1 .meets .parent v l
+  parent v l = ap (cellAt left) (sym (placed n m 4 v)) ∙ ran .1 .mirrored .cell (names .P v) l ∙ ran .1 .meets .parent v l
 
   pub method1 : Solved far edge n m source cells left
   method1 =

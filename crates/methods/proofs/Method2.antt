@@ -2,27 +2,24 @@
 -- Rests on turns, banks and Dijkstra.
 use mathlib.Core.Path.{_≡_, sym, ap, _∙_}
 use mathlib.Core.Logic.{inl, inr}
-use mathlib.Core.List.{List, [], _∷_, map, map-append}
+use mathlib.Core.List.{List, [], _∷_}
 use Prim.Native.Nat.{ℕ, _+_, _*_, _<_, _≤_}
 use native.Mathlib.Nat.{mul-le-mul-right}
 use native.Mathlib.Omega.{arith}
-use lib.Arith.{digits-lt}
 use lib.IntN.{ℤ, pos}
 use lib.ListN.{length}
-use Rattle.machine.specs.Instruction.{addresses, All}
 use Rattle.machine.specs.Effect.{cellAt}
-use Rattle.plans.specs.Method2.{Places, places, opening, fetch, turn}
+use Rattle.plans.specs.Method2.{places, address, outline}
 use Rattle.plans.specs.Method2 as Method2
-use Rattle.plans.proofs.Blocks.{all-weaken}
-use Rattle.plans.proofs.Addresses.{Keeps, Places2, plan2-keeps}
+use Rattle.plans.proofs.Outlines.{by-region}
 use Rattle.graph.specs.Dijkstra.{tableNetwork, fromVertex, State, turns}
 use Rattle.graph.proofs.Parents.{carried}
 use Rattle.graph.proofs.Dijkstra.{dijkstra}
 use Rattle.methods.specs.Bank.{performAll, Summed}
 use Rattle.methods.specs.Method2.{Room, Laid, Solved, plan}
 use Rattle.methods.proofs.Sums.{summed-map}
-use Rattle.methods.proofs.Banks.{renamed, Layout, Ended, on-bank}
-use Rattle.methods.proofs.Names.{Name, same, Store, regions, map-flat}
+use Rattle.methods.proofs.Banks.{Layout, Ended, on-bank}
+use Rattle.methods.proofs.Names.{Name, same, Store, regions}
 use Rattle.methods.proofs.Bits.{sum-exact}
 use Rattle.methods.proofs.Turns.{names, Sum, Given, Holds, plan-runs}
 
@@ -31,48 +28,8 @@ use Rattle.methods.proofs.Turns.{names, Sum, Given, Holds, plan-runs}
 abbrev layout : (n : ℕ) → Layout Name same
 layout n = regions (n * n ∷ n ∷ n ∷ n ∷ n ∷ n ∷ 6 ∷ [])
 
--- g takes the places c to the places d.
-record Moved {A B : Type 0} (g : A → B) (c : Places A) (d : Places B) : Type 0 where
-  U : (k : ℕ) → g (c .U k) ≡ d .U k
-  D : (v : ℕ) → g (c .D v) ≡ d .D v
-  P : (v : ℕ) → g (c .P v) ≡ d .P v
-  Y : (v : ℕ) → g (c .Y v) ≡ d .Y v
-  O : (v : ℕ) → g (c .O v) ≡ d .O v
-  R : (j : ℕ) → g (c .R j) ≡ d .R j
-  X : (j : ℕ) → g (c .X j) ≡ d .X j
-
-module _ {A B : Type 0} (g : A → B) (c : Places A) (d : Places B) (e : Moved g c d) (far : ℤ) (n : ℕ) where
-  fetch-moved : (v : ℕ) → map (renamed g) (fetch c far n v) ≡ fetch d far n v
-  unfolding fetch
-  fetch-moved v = simp (map-append, map-flat, e .U, e .Y, e .O, e .R, e .X)
-
-  turn-moved : map (renamed g) (turn c far n) ≡ turn d far n
-  unfolding turn
-  turn-moved = simp (map-append, map-flat, fetch-moved, e .D, e .P, e .Y, e .O, e .R, e .X)
-
-  plan-moved : (source : ℕ) → map (renamed g) (Method2.plan c far n source) ≡ Method2.plan d far n source
-  unfolding Method2.plan opening
-  plan-moved source = simp (map-append, map-flat, turn-moved, e .D, e .P, e .Y, e .O, e .X)
-
-placed : (n : ℕ) → Moved (layout n .place) names (places n)
-placed n = omega arith
-
-named : (n : ℕ) → Places2 (layout n .Good) names n
-named n =
-    record {
-      U = λ v j p q. digits-lt {q = v} {m = n} {r = j} {c = n} p q;
-      D = omega arith;
-      P = omega arith;
-      Y = omega arith;
-      O = omega arith;
-      R = omega arith;
-      X = omega arith;
-    }
-
-good : (far : ℤ) (n source : ℕ) → All (λ i. All (layout n .Good) (addresses i)) (Method2.plan names far n source)
-good far n source =
-    all-weaken (Keeps (layout n .Good) (λ z. Unit {0})) _ (λ i h. h .0) (Method2.plan names far n source)
-    (plan2-keeps (layout n .Good) (λ z. Unit {0}) names far n (named n) (omega arith) source)
+placed : (n r p : ℕ) → layout n .place (address names r p) ≡ address (places n) r p
+placed n = by-region 7 _ (omega arith)
 
 -- ---- the theorem
 
@@ -98,19 +55,20 @@ module _ (far limit : ℕ) (table : ℕ → ℕ → ℕ) (n source : ℕ) (cells
   enough = omega (arith, laid .enough)
 
   given : Given table n (λ a. cellAt cells (layout n .place a))
-  given u j lu lj = ap (cellAt cells) (placed n .U (u * n + j)) ∙ laid .entry u j lu lj
+  given u j lu lj = ap (cellAt cells) (placed n 0 (u * n + j)) ∙ laid .entry u j lu lj
 
   ran : Summed Sum (plan far n source) cells × Ended same (layout n) cells enough End left
+  unfolding Method2.plan
   ran =
-      on-bank same (layout n) cells enough Sum End (Method2.plan names (pos far) n source)
-      (good (pos far) n source) (plan far n source) (plan-moved _ names (places n) (placed n) (pos far) n source)
-      (plan-runs far table n most (room .fits) source _ given)
+      on-bank same (layout n) cells enough Sum End (address names) (address (places n)) (placed n)
+      (pos far) n 0 source outline (search arith)
+      (plan-runs far table n source most (room .fits) _ given)
 
   dist : (v : ℕ) → v < n → cellAt left (places n .D v) ≡ pos (final .dist v)
-  dist v l = ap (cellAt left) (sym (placed n .D v)) ∙ ran .1 .mirrored .cell (names .D v) l ∙ ran .1 .meets .dist v l
+  dist v l = ap (cellAt left) (sym (placed n 1 v)) ∙ ran .1 .mirrored .cell (names .D v) l ∙ ran .1 .meets .dist v l
 
   parent : (v : ℕ) → v < n → cellAt left (places n .P v) ≡ final .parent v
-  parent v l = ap (cellAt left) (sym (placed n .P v)) ∙ ran .1 .mirrored .cell (names .P v) l ∙ ran .1 .meets .parent v l
+  parent v l = ap (cellAt left) (sym (placed n 2 v)) ∙ ran .1 .mirrored .cell (names .P v) l ∙ ran .1 .meets .parent v l
 
   pub method2 : Solved far table n source cells left
   method2 =

@@ -1,14 +1,13 @@
 -- Names of cells, a region and a place in it: two names with different regions, written out, are told apart by computation.
--- A bank laid out in regions of given sizes, and plans renamed block by block. Rests on banks.
+-- A bank laid out in regions of given sizes, and what holds of all regions. Rests on banks.
 use mathlib.Core.Path.{_≡_, refl, sym, ap, ap₂, _∙_}
-use mathlib.Core.Bool.{Bool, true, false, _&&_, true≢false}
-use mathlib.Core.List.{List, [], _∷_, _++_, map, map-append}
+use mathlib.Core.Bool.{Bool, _&&_, true≢false}
+use mathlib.Core.List.{List, [], _∷_}
 use Prim.Native.Nat.{ℕ, zero, suc, _+_, _<_}
 use native.Mathlib.Omega.{arith}
 use borrow.Author.Tests.{eq-eqb, ne-eqb, eqb-true}
 use lib.Dec.{eqb}
 use lib.IntN.{ℤ}
-use Rattle.plans.specs.Blocks.{flat}
 use Rattle.graph.proofs.Test.{by-test, and-both}
 use Rattle.methods.proofs.Banks.{Layout}
 
@@ -74,10 +73,3 @@ regions z =
       below = λ a h. in-region-below z (a .0) (a .1) h;
       apart = apart z;
     }
-
--- ---- blocks, mapped
-
-pub map-flat : {X Y : Type 0} (h : X → Y) (count : ℕ) (f : ℕ → List X) → map h (flat count f) ≡ flat count (λ j. map h (f j))
-unfolding flat
-map-flat h zero f = refl
-map-flat h (suc count) f = map-append h (flat count f) (f count) ∙ ap (λ l. l ++ map h (f count)) (map-flat h count f)

@@ -2,18 +2,20 @@
 -- Rests on stores, names, bits and filled regions.
 use mathlib.Core.Path.{_≡_, refl, ap, _∙_}
 use mathlib.Core.Bool.{cond}
-use mathlib.Core.List.{List}
 use Prim.Native.Nat.{ℕ, suc, _+_, _*_, _^_, _<_, _≤_}
 use native.Mathlib.Omega.{arith}
 use lib.Dec.{eqb}
 use lib.IntN.{ℤ, pos, negsuc, natAbs}
 use Rattle.machine.specs.Instruction.{Instruction}
 use Rattle.machine.specs.Effect.{eqZ, bit, wrapAdd}
-use Rattle.plans.specs.Method2.{Places, start, openingParts, opening, choose, clear, fetchCell, fetchParts, fetch, relax, turnParts, turn, planParts, plan}
+use Rattle.plans.specs.Outline.{middle, Outline, counted-to, start, instructions}
+use Rattle.plans.specs.Method2.{Places, address, fetch, turn, plan}
+use Rattle.plans.specs.declared.Counters.{Counters}
 use Rattle.graph.specs.Dijkstra as Dijkstra
 use Rattle.graph.specs.Dijkstra.{State, begin, best, who, rowOf, isVertex, turns}
 use Rattle.graph.proofs.Dijkstra.{Picked, nobody, picked, pick, sum-bound}
-use Rattle.methods.proofs.Stores.{Runs, runs-to, runs-concat, loop}
+use Rattle.methods.proofs.Steps.{Claim, Kind, Runs, loop}
+use Rattle.methods.proofs.Stores.{numbers}
 use Rattle.methods.proofs.Names.{Name, same, Store}
 use Rattle.methods.proofs.Bits.{eqb-sym, both-bit, pick-bit, cond-ap, cond-zero, sum-exact}
 use Rattle.methods.proofs.Filled.{upto, upto-zero, upto-here, upto-all, upto-suc, fill-none, fill}
@@ -36,8 +38,9 @@ open Places names using (U, D, P, Y, O, R, X)
 abbrev pub Sum : ℤ → ℤ → Type 0
 Sum x y = natAbs x + natAbs y < 2 ^ 63
 
-abbrev pub Does : List (Instruction Name) → (Store → Type 0) → Store → Type 0
-Does = Runs same Sum
+-- The instructions as steps on named stores.
+abbrev pub steps : Kind (Instruction Name) Store
+steps = numbers same Sum
 
 -- ---- the chosen vertex, and its row
 
@@ -90,8 +93,11 @@ module _ (far : ℕ) (table : ℕ → ℕ → ℕ) (n : ℕ) where
         unseen : (v : ℕ) → v < n → s (O v) ≡ bit (st .unseen v);
       }
 
-module _ (far : ℕ) (table : ℕ → ℕ → ℕ) (n : ℕ) (most : (u j : ℕ) → u < n → j < n → table u j ≤ far)
+module _ (far : ℕ) (table : ℕ → ℕ → ℕ) (n source : ℕ) (most : (u j : ℕ) → u < n → j < n → table u j ≤ far)
     (fits : far + far < 2 ^ 63) where
+  abbrev Does : Outline → Counters → Claim Store → Claim Store
+  Does o k = Runs steps (instructions (address names) (pos far) n 0 source o k)
+
   -- ---- a turn
 
   module _ (st : State) where
@@ -111,22 +117,9 @@ module _ (far : ℕ) (table : ℕ → ℕ → ℕ) (n : ℕ) (most : (u j : ℕ)
     abbrev Chosen : ℕ → Store → Type 0
     Chosen k t = Holds far table n st t × (t (X 1) ≡ pos (best far st k)) × (t (X 3) ≡ who far st k)
 
-    choose-step : (k : ℕ) (t : Store) → k < n → Chosen k t → Does (choose names (pos far) n k) (Chosen (suc k)) t
-    choose-step k t l (h, x1, x3) =
-        let d = h .dist k l in
-        let o = h .unseen k l in (
-          h,
-          simp (both-bit, pick-bit, d, o, x1, cond-ap pos),
-          simp (both-bit, pick-bit, d, o, h .fixed .vertex k l, x1, x3),
-        )
-
     abbrev Cleared : ℕ → Store → Type 0
     Cleared k t =
         Holds far table n st t × (t (X 1) ≡ pos b) × (t (X 3) ≡ w) × ((j : ℕ) → j < k → t (R j) ≡ pos far)
-
-    clear-step : (k : ℕ) (t : Store) → k < n → Cleared k t → Does (clear names (pos far) n k) (Cleared (suc k)) t
-    clear-step k t l (h, x1, x3, r) =
-        (h, x1, x3, fill k (h .fixed .far) r)
 
     -- The vertices below k have been looked at: the chosen one is closed, and its row is fetched.
     abbrev closing : ℕ → State
@@ -148,31 +141,15 @@ module _ (far : ℕ) (table : ℕ → ℕ → ℕ) (n : ℕ) (most : (u j : ℕ)
         × (t (X 5) ≡ bit (isVertex w k))
         × ((j : ℕ) → j < n → t (R j) ≡ pos (upto i (rowUpto far table (suc k) w) (rowUpto far table k w) j))
 
-    cell-step : (k : ℕ) → k < n → (i : ℕ) (t : Store) → i < n → Fetching k i t
-        → Does (fetchCell names (pos far) n k i) (Fetching k (suc i)) t
-    cell-step k l i t li (h, x1, x3, x5, r) =
-        let new = rowUpto far table (suc k) w in
-        let old = rowUpto far table k w in
-        let e = h .fixed .entry k i l li in (
-          h,
-          x1,
-          x3,
-          x5,
-          λ j lj.
-              simp (pick-bit, x5, e, r i li, r j lj, upto-here new old i, cond-ap pos, row-suc far table k w i)
-              (ap pos (upto-suc new old i j)),
-        )
-
-    fetch-step : (k : ℕ) (t : Store) → k < n → Fetched k t → Does (fetch names (pos far) n k) (Fetched (suc k)) t
-    unfolding fetch
-    fetch-step k t l (h, x1, x3, r) =
+    fetch-runs : (k : ℕ) (t : Store) → k < n → Fetched k t → Does fetch (counted-to middle k start) (Fetched (suc k)) t
+    unfolding instructions
+    fetch-runs k t l (h, x1, x3, r) =
         let new = rowUpto far table (suc k) w in
         let old = rowUpto far table k w in
         let y = h .fixed .vertex k l in
         let z = h .fixed .zero in
         let o : t (O k) ≡ bit (st .unseen k) = h .unseen k l ∙ ap bit (upto-here (next .unseen) (st .unseen) k) in
-        runs-concat same Sum (fetchParts names (pos far) n k) (Fetched (suc k)) t
-        (loop same Sum (Fetching k) (fetchCell names (pos far) n k) n (Fetched (suc k)) _ (
+        loop steps (Fetching k) n _ _ _ (
           record {
             fixed = h .fixed;
             dist = h .dist;
@@ -187,8 +164,17 @@ module _ (far : ℕ) (table : ℕ → ℕ → ℕ) (n : ℕ) (most : (u j : ℕ)
           simp (x3, y, vertex-test),
           λ j lj. r j lj ∙ ap pos (upto-zero new old j),
         )
-        (cell-step k l)
-        (λ t (h, x1, x3, _, r). (h, x1, x3, λ j lj. r j lj ∙ ap pos (upto-all new old n j lj))))
+        (λ i t li (h, x1, x3, x5, r).
+        let e = h .fixed .entry k i l li in (
+          h,
+          x1,
+          x3,
+          x5,
+          λ j lj.
+              simp (pick-bit, x5, e, r i li, r j lj, upto-here new old i, cond-ap pos, row-suc far table k w i)
+              (ap pos (upto-suc new old i j)),
+        ))
+        (λ t (h, x1, x3, _, r). (h, x1, x3, λ j lj. r j lj ∙ ap pos (upto-all new old n j lj)))
 
     -- The vertices below k are relaxed.
     abbrev mix : ℕ → State
@@ -203,8 +189,46 @@ module _ (far : ℕ) (table : ℕ → ℕ → ℕ) (n : ℕ) (most : (u j : ℕ)
     Relaxed k t =
         Holds far table n (mix k) t × (t (X 1) ≡ pos b) × (t (X 3) ≡ w) × ((j : ℕ) → j < n → t (R j) ≡ pos (row j))
 
-    relax-step : (k : ℕ) (t : Store) → k < n → Relaxed k t → Does (relax names (pos far) n k) (Relaxed (suc k)) t
-    relax-step k t l (h, x1, x3, r) =
+    turn-runs : (s : Store) → Holds far table n st s → Does turn start (Holds far table n next) s
+    unfolding instructions
+    turn-runs s h =
+        loop steps Chosen n _ _ _ (h, h .fixed .far, refl)
+        (λ k t l (h, x1, x3).
+        let d = h .dist k l in
+        let o = h .unseen k l in (
+          h,
+          simp (both-bit, pick-bit, d, o, x1, cond-ap pos),
+          simp (both-bit, pick-bit, d, o, h .fixed .vertex k l, x1, x3),
+        ))
+        (λ t (h, x1, x3).
+        loop steps Cleared n _ _ _ (h, x1, x3, fill-none _ _)
+        (λ k t l (h, x1, x3, r). (h, x1, x3, fill k (h .fixed .far) r))
+        (λ t (h, x1, x3, r).
+        loop steps Fetched n _ _ _ (
+          record {
+            fixed = h .fixed;
+            dist = h .dist;
+            parent = h .parent;
+            unseen = λ v l. h .unseen v l ∙ ap bit (upto-zero (next .unseen) (st .unseen) v);
+          },
+          x1,
+          x3,
+          λ j l. r j l ∙ ap pos (row-zero far table w j),
+        )
+        fetch-runs
+        (λ t (h, x1, x3, r).
+        loop steps Relaxed n _ _ _ (
+          record {
+            fixed = h .fixed;
+            dist = λ v l. h .dist v l ∙ ap pos (upto-zero (next .dist) (st .dist) v);
+            parent = λ v l. h .parent v l ∙ upto-zero (next .parent) (st .parent) v;
+            unseen = λ v l. h .unseen v l ∙ ap bit (upto-all (next .unseen) (st .unseen) n v l);
+          },
+          x1,
+          x3,
+          λ j l. r j l ∙ ap pos (row-all far table st n (pick far st n .0) j),
+        )
+        (λ k t l (h, x1, x3, r).
         let small : b + row k < 2 ^ 63 = omega (arith, sum-bound far table n most st k l) in
         let sum : wrapAdd (pos b) (pos (row k)) ≡ pos (b + row k) = sum-exact (pos b) (pos (row k)) small in
         let d : t (D k) ≡ pos (st .dist k) = h .dist k l ∙ ap pos (upto-here (next .dist) (st .dist) k) in
@@ -227,86 +251,42 @@ module _ (far : ℕ) (table : ℕ → ℕ → ℕ) (n : ℕ) (most : (u j : ℕ)
             x3,
             r,
           ),
-        )
-
-    turn-runs : (s : Store) → Holds far table n st s → Does (turn names (pos far) n) (Holds far table n next) s
-    unfolding turn
-    turn-runs s h =
-        runs-concat same Sum (turnParts names (pos far) n) (Holds far table n next) s
-        (loop same Sum Chosen (choose names (pos far) n) n _ _ (h, h .fixed .far, refl) choose-step
-        (λ t (h, x1, x3).
-        loop same Sum Cleared (clear names (pos far) n) n _ t (h, x1, x3, fill-none _ _) clear-step
-        (λ t (h, x1, x3, r).
-        loop same Sum Fetched (fetch names (pos far) n) n _ t (
-          record {
-            fixed = h .fixed;
-            dist = h .dist;
-            parent = h .parent;
-            unseen = λ v l. h .unseen v l ∙ ap bit (upto-zero (next .unseen) (st .unseen) v);
-          },
-          x1,
-          x3,
-          λ j l. r j l ∙ ap pos (row-zero far table w j),
-        )
-        fetch-step
-        (λ t (h, x1, x3, r).
-        loop same Sum Relaxed (relax names (pos far) n) n _ t (
-          record {
-            fixed = h .fixed;
-            dist = λ v l. h .dist v l ∙ ap pos (upto-zero (next .dist) (st .dist) v);
-            parent = λ v l. h .parent v l ∙ upto-zero (next .parent) (st .parent) v;
-            unseen = λ v l. h .unseen v l ∙ ap bit (upto-all (next .unseen) (st .unseen) n v l);
-          },
-          x1,
-          x3,
-          λ j l. r j l ∙ ap pos (row-all far table st n (pick far st n .0) j),
-        )
-        relax-step
+        ))
         (λ t (h, _, _, _).
         record {
           fixed = h .fixed;
           dist = λ v l. h .dist v l ∙ ap pos (upto-all (next .dist) (st .dist) n v l);
           parent = λ v l. h .parent v l ∙ upto-all (next .parent) (st .parent) n v l;
           unseen = h .unseen;
-        })))))
+        }))))
 
   -- ---- the opening and all turns
 
-  module _ (source : ℕ) where
-    abbrev first : State
-    first = begin far source
+  abbrev first : State
+  first = begin far source
 
-    abbrev Opened : ℕ → Store → Type 0
-    Opened k t =
-        Given table n t
-        × ((v : ℕ) → v < k → t (Y v) ≡ pos v)
-        × ((v : ℕ) → v < k → t (D v) ≡ pos (first .dist v))
-        × ((v : ℕ) → v < k → t (P v) ≡ first .parent v)
-        × ((v : ℕ) → v < k → t (O v) ≡ bit (first .unseen v))
+  -- The opening has set the vertices below k.
+  abbrev Opened : ℕ → Store → Type 0
+  Opened k t =
+      Given table n t
+      × ((v : ℕ) → v < k → t (Y v) ≡ pos v)
+      × ((v : ℕ) → v < k → t (D v) ≡ pos (first .dist v))
+      × ((v : ℕ) → v < k → t (P v) ≡ first .parent v)
+      × ((v : ℕ) → v < k → t (O v) ≡ bit (first .unseen v))
 
-    opening-runs : (s : Store) → Given table n s → Does (opening names (pos far) n source) (Holds far table n first) s
-    unfolding opening bit
-    opening-runs s h =
-        runs-concat same Sum (openingParts names (pos far) n source) (Holds far table n first) s
-        (loop same Sum Opened (start names (pos far) n source) n _ s
-        (h, fill-none _ _, fill-none _ _, fill-none _ _, fill-none _ _)
-        (λ k t l (h, y, d, p, o). (h, fill k refl y, fill k (cond-ap pos (eqb k source) 0 far) d, fill k refl p, fill k refl o))
-        (λ t (h, y, d, p, o).
-        record {
-          fixed = record { entry = h; vertex = y; far = refl; zero = refl };
-          dist = d;
-          parent = p;
-          unseen = o;
-        }))
-
-    pub plan-runs : (s : Store) → Given table n s
-        → Does (plan names (pos far) n source) (Holds far table n (turns far table n source n)) s
-    unfolding plan
-    plan-runs s h =
-        runs-concat same Sum (planParts names (pos far) n source) _ s
-        (runs-to same Sum (opening names (pos far) n source) (Holds far table n first) _ s
-        (λ t h.
-        loop same Sum (λ k. Holds far table n (turns far table n source k)) (λ k. turn names (pos far) n) n _ t h
-        (λ k u l. turn-runs (turns far table n source k) u)
-        (λ u h. h))
-        (opening-runs s h))
+  pub plan-runs : (s : Store) → Given table n s
+      → Runs steps (plan names (pos far) n source) (Holds far table n (turns far table n source n)) s
+  unfolding plan instructions bit
+  plan-runs s h =
+      loop steps Opened n _ _ _ (h, fill-none _ _, fill-none _ _, fill-none _ _, fill-none _ _)
+      (λ k t l (h, y, d, p, o). (h, fill k refl y, fill k (cond-ap pos (eqb k source) 0 far) d, fill k refl p, fill k refl o))
+      (λ t (h, y, d, p, o).
+      loop steps (λ k. Holds far table n (turns far table n source k)) n _ _ _
+      (record {
+        fixed = record { entry = h; vertex = y; far = refl; zero = refl };
+        dist = d;
+        parent = p;
+        unseen = o;
+      })
+      (λ k t l. turn-runs (turns far table n source k) t)
+      (λ t h. h))

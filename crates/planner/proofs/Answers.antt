@@ -7,13 +7,13 @@ use native.Mathlib.Omega.{arith}
 use lib.Dec.{leb}
 use lib.ListN.{length, getD, drop}
 use borrow.Author.Tests.{le-leb, lt-leb}
+use Rattle.answers.specs.declared.Refusal.{Refusal}
+use Rattle.answers.specs.Refusal.{Method, Log, need, orElse}
 use Rattle.plans.specs.declared.Header.{Header}
 use Rattle.plans.specs.Plan.{headerOf, planOf}
-use Rattle.planner.specs.declared.Refusal.{Refusal}
-use Rattle.planner.specs.declared.Refusal.the-variants.{Method, Log}
 use Rattle.planner.specs.declared.Written.the-variants.{Length, Refused}
-use Rattle.planner.specs.Refusal.{need, headerRefusal}
-use Rattle.planner.specs.Written.{orElse, planRefusal, planWords, WrittenPlan}
+use Rattle.planner.specs.Refusal.{headerRefusal}
+use Rattle.planner.specs.Written.{planRefusal, planWords, WrittenPlan}
 
 refused : (header buffer : List ℕ) (r : Refusal) → planRefusal header (length buffer) ≡ some r
     → WrittenPlan header buffer (Refused r) buffer

@@ -3,6 +3,7 @@ use mathlib.Core.Path.{refl}
 use Rattle.fields.specs.Fields.{bitsOf}
 use Rattle.machine.specs.Word.{packed, packedSet}
 use Rattle.plans.specs.Blocks.{flat}
+use Rattle.plans.specs.Outline.{instructions}
 use Rattle.plans.specs.Method1 as Method1
 use Rattle.plans.specs.Method2 as Method2
 use Rattle.plans.specs.Plan.{instructionsOf, planOf}
@@ -11,13 +12,9 @@ use Rattle.planner.specs.Written.{planRefusal}
 use Rattle.planner.specs.Facts.{Facts}
 
 pub facts : Facts
-unfolding bitsOf packed packedSet flat Method1.opening Method1.gather Method1.relax Method1.check Method1.pass Method1.plan Method2.opening Method2.fetch Method2.turn Method2.plan instructionsOf planOf headerRefusal planRefusal
+unfolding bitsOf packed packedSet flat instructions Method1.plan Method2.plan instructionsOf planOf headerRefusal planRefusal
 facts =
     record {
-      desk = (refl, refl, refl, refl, refl);
-      host = (refl, refl, refl);
-      sender = refl;
-      carrier = (refl, refl);
       ends = (refl, refl, refl, refl, refl, refl, refl, refl, refl, refl, refl, refl, refl);
       order = (refl, refl, refl, refl, refl, refl, refl, refl);
       writing-first = (refl, refl, refl, refl, refl, refl);

@@ -1,19 +1,27 @@
 -- Which refusal a header meets, by the ways out of `check_header`; a header that meets none is within the limits.
--- Rests on the definitions alone.
+-- Rests on answers' Unmet and Apart.
 use mathlib.Core.Path.{_≡_, refl, sym}
-use mathlib.Core.Bool.{Bool, true, false, _&&_}
-use mathlib.Core.Option.{Option, none, some}
+use mathlib.Core.Bool.{Bool, false, true, not, _&&_}
+use mathlib.Core.Option.{none, some}
 use Prim.Native.Nat.{ℕ, zero, suc, _<_, _≤_}
 use native.Mathlib.Omega.{arith}
-use lib.Dec.{T, ltb, leb, ltb→lt, leb→le}
-use borrow.Author.Tests.{lt-ltb, le-ltb, le-leb, lt-leb}
+use lib.Dec.{ltb, leb, ltb→lt, leb→le}
+use borrow.Author.Tests.{lt-ltb, le-ltb, le-leb, lt-leb, not-true, not-false}
 use mir.Facts.{and-yes}
+use Rattle.answers.specs.Refusal.{Method, Vertices, Edges, Source, need}
+use Rattle.answers.proofs.Unmet.{need-none}
+use Rattle.answers.proofs.Apart.{MetApart, none-apart, need-apart}
 use Rattle.plans.specs.declared.Header.{Header}
-use Rattle.plans.specs.Limits.{mostEdges}
+use Rattle.plans.specs.Limits.{knownMethod, mostEdges}
 use Rattle.plans.specs.Plan.{Accepted}
-use Rattle.planner.specs.declared.Refusal.{Refusal}
-use Rattle.planner.specs.declared.Refusal.the-variants.{Method, Vertices, Edges, Source}
-use Rattle.planner.specs.Refusal.{need, headerRefusal}
+use Rattle.planner.specs.Refusal.{headerRefusal}
+
+-- No other method is known.
+pub no-other : (method : ℕ) → (method ≡ 1 → ⊥) → (method ≡ 2 → ⊥) → false ≡ knownMethod method
+no-other zero a b = refl
+no-other (suc zero) a b = absurd (a refl)
+no-other (suc (suc zero)) a b = absurd (b refl)
+no-other (suc (suc (suc _))) a b = refl
 
 -- Only method 1 has edges.
 pub no-edges : (method : ℕ) → (method ≡ 1 → ⊥) → 0 ≡ mostEdges method
@@ -22,73 +30,73 @@ no-edges (suc zero) h = absurd (h refl)
 no-edges (suc (suc zero)) h = refl
 no-edges (suc (suc (suc k))) h = refl
 
-module _ (h : Header) where
-  pub method-low : h .method < 1 → some Method ≡ headerRefusal h
+-- k is what `known` answers of the method.
+module _ (h : Header) (k : Bool) (is : k ≡ knownMethod (h .method)) where
+  pub method-unknown : not k ≡ true → some Method ≡ headerRefusal h
   unfolding headerRefusal
-  method-low a = simp (le-ltb 0 (h .method) (omega arith))
+  method-unknown e = rw (← is, not-true k e)
 
-  pub method-high : 2 < h .method → some Method ≡ headerRefusal h
+  pub method-known : not k ≡ false → knownMethod (h .method) ≡ true
+  method-known e = rw (← is, not-false k e)
+
+module _ (h : Header) (known : knownMethod (h .method) ≡ true) where
+  pub vertices-low : h .vertices < 1 → some Vertices ≡ headerRefusal h
   unfolding headerRefusal
-  method-high a = simp (lt-ltb 0 (h .method) (omega arith), lt-leb (h .method) 2 a)
+  vertices-low a = simp (known, le-ltb 0 (h .vertices) (omega arith))
 
-  module _ (m₁ : 1 ≤ h .method) (m₂ : h .method ≤ 2) where
-    pub vertices-low : h .vertices < 1 → some Vertices ≡ headerRefusal h
+  pub vertices-high : 32 < h .vertices → some Vertices ≡ headerRefusal h
+  unfolding headerRefusal
+  vertices-high a = simp (known, lt-ltb 0 (h .vertices) (omega arith), lt-leb (h .vertices) 32 a)
+
+  module _ (v₁ : 1 ≤ h .vertices) (v₂ : h .vertices ≤ 32) where
+    pub edges-many : mostEdges (h .method) < h .edges → some Edges ≡ headerRefusal h
     unfolding headerRefusal
-    vertices-low a = simp (lt-ltb 0 (h .method) m₁, le-leb (h .method) 2 m₂, le-ltb 0 (h .vertices) (omega arith))
+    edges-many a =
+        simp (
+          known,
+          lt-ltb 0 (h .vertices) v₁,
+          le-leb (h .vertices) 32 v₂,
+          lt-leb (h .edges) (mostEdges (h .method)) a,
+        )
 
-    pub vertices-high : 32 < h .vertices → some Vertices ≡ headerRefusal h
-    unfolding headerRefusal
-    vertices-high a =
-        simp (lt-ltb 0 (h .method) m₁, le-leb (h .method) 2 m₂, lt-ltb 0 (h .vertices) (omega arith), lt-leb (h .vertices) 32 a)
-
-    module _ (v₁ : 1 ≤ h .vertices) (v₂ : h .vertices ≤ 32) where
-      pub edges-many : mostEdges (h .method) < h .edges → some Edges ≡ headerRefusal h
+    module _ (e : h .edges ≤ mostEdges (h .method)) where
+      by-source : need (ltb (h .source) (h .vertices)) Source none ≡ headerRefusal h
       unfolding headerRefusal
-      edges-many a =
+      by-source =
           simp (
-            lt-ltb 0 (h .method) m₁,
-            le-leb (h .method) 2 m₂,
+            known,
             lt-ltb 0 (h .vertices) v₁,
             le-leb (h .vertices) 32 v₂,
-            lt-leb (h .edges) (mostEdges (h .method)) a,
+            le-leb (h .edges) (mostEdges (h .method)) e,
           )
 
-      module _ (e : h .edges ≤ mostEdges (h .method)) where
-        by-source : need (ltb (h .source) (h .vertices)) Source none ≡ headerRefusal h
-        unfolding headerRefusal
-        by-source =
-            simp (
-              lt-ltb 0 (h .method) m₁,
-              le-leb (h .method) 2 m₂,
-              lt-ltb 0 (h .vertices) v₁,
-              le-leb (h .vertices) 32 v₂,
-              le-leb (h .edges) (mostEdges (h .method)) e,
-            )
+      pub source-high : h .vertices ≤ h .source → some Source ≡ headerRefusal h
+      source-high a = rw (← by-source, le-ltb (h .source) (h .vertices) a)
 
-        pub source-high : h .vertices ≤ h .source → some Source ≡ headerRefusal h
-        source-high a = rw (← by-source, le-ltb (h .source) (h .vertices) a)
-
-        pub none-met : h .source < h .vertices → none ≡ headerRefusal h
-        none-met a = rw (← by-source, lt-ltb (h .source) (h .vertices) a)
-
-passed : (b : Bool) (r : Refusal) (later : Option Refusal) → need b r later ≡ none → T b × (later ≡ none)
-passed true r later e = (tt, e)
-passed false r later e = let z : _≡_ {A = ℕ} 0 1 = cc in let no : ⊥ = omega arith in absurd no
+      pub none-met : h .source < h .vertices → none ≡ headerRefusal h
+      none-met a = rw (← by-source, lt-ltb (h .source) (h .vertices) a)
 
 pub accepted : (h : Header) → none ≡ headerRefusal h → Accepted h
 unfolding headerRefusal
 accepted h e =
-    let (a, p) = passed (ltb 0 (h .method) && leb (h .method) 2) Method _ (sym e) in
-    let (b, q) = passed (ltb 0 (h .vertices) && leb (h .vertices) 32) Vertices _ p in
-    let (c, r) = passed (leb (h .edges) (mostEdges (h .method))) Edges _ q in
-    let (d, _) = passed (ltb (h .source) (h .vertices)) Source none r in
-    let (a₁, a₂) = and-yes (ltb 0 (h .method)) _ a in
+    let (a, p) = need-none (knownMethod (h .method)) Method _ .0 (sym e) in
+    let (b, q) = need-none (ltb 0 (h .vertices) && leb (h .vertices) 32) Vertices _ .0 p in
+    let (c, r) = need-none (leb (h .edges) (mostEdges (h .method))) Edges _ .0 q in
+    let (d, _) = need-none (ltb (h .source) (h .vertices)) Source none .0 r in
     let (b₁, b₂) = and-yes (ltb 0 (h .vertices)) _ b in
     record {
-      method-some = ltb→lt 0 (h .method) a₁;
-      method-known = leb→le (h .method) 2 a₂;
+      known = a;
       vertices-some = ltb→lt 0 (h .vertices) b₁;
       vertices-few = leb→le (h .vertices) 32 b₂;
       edges-few = leb→le (h .edges) _ c;
       source-there = ltb→lt (h .source) (h .vertices) d;
     }
+
+-- A run is told by none of these numbers.
+pub header-apart : (h : Header) → MetApart (headerRefusal h)
+unfolding headerRefusal
+header-apart h =
+    need-apart (knownMethod (h .method)) Method _ (refl, refl)
+    (need-apart (ltb 0 (h .vertices) && leb (h .vertices) 32) Vertices _ (refl, refl)
+    (need-apart (leb (h .edges) (mostEdges (h .method))) Edges _ (refl, refl)
+    (need-apart (ltb (h .source) (h .vertices)) Source none (refl, refl) none-apart)))

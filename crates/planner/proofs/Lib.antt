@@ -1,5 +1,6 @@
 pub mod Facts
 pub mod Headers
-pub mod Filled
 pub mod Answers
 pub mod Placed
+pub mod Tables
+pub mod Fills

@@ -1,27 +1,21 @@
--- Document 01, "Who caused it", as facts about literal numbers and words: the refusals' numbers and places, their order in a header, and what
--- writing a plan answers and leaves. Rests on the definitions alone.
+-- Document 01, "Who caused it", as facts about literal words: the order of the refusals in a header, and what writing a plan answers and leaves.
+-- Rests on the definitions alone.
 use mathlib.Core.Path.{_≡_}
 use mathlib.Core.List.{List, [], _∷_}
 use mathlib.Core.Option.{Option, none, some}
 use Prim.Native.Nat.{ℕ}
 use lib.ListN.{length, replicate}
+use Rattle.answers.specs.declared.Refusal.{Refusal}
+use Rattle.answers.specs.Told.{Told}
+use Rattle.answers.specs.Facts.{byNumber}
 use Rattle.plans.specs.Plan.{headerOf}
-use Rattle.planner.specs.declared.Refusal.{Refusal}
-use Rattle.planner.specs.declared.Refusal.the-variants.{Method, Vertices, Edges, Source, Words, Cells, Log, Results, Operation, Edge, Weight}
-use Rattle.planner.specs.Refusal.{Told, number, refused, headerRefusal}
+use Rattle.planner.specs.Refusal.{headerRefusal}
 use Rattle.planner.specs.Written.{planRefusal, planWords, answerOf, bufferOf}
-
--- A refusal that tells its number alone, and one that tells its place too.
-abbrev pub byNumber : (number : ℕ) → Told
-byNumber k = record { number = k; place = none; values = [] }
-
-abbrev pub atPlace : (number place : ℕ) → Told
-atPlace k place = record { number = k; place = some place; values = [] }
 
 -- The number that a header word meets, 0 where it meets none.
 abbrev pub numberMet : Option Refusal → ℕ
 numberMet none = 0
-numberMet (some r) = number r
+numberMet (some r) = r .number
 
 abbrev pub headerMeets : (word : ℕ) → ℕ
 headerMeets w = numberMet (headerRefusal (headerOf w))
@@ -34,18 +28,6 @@ abbrev pub bufferLeft : (header buffer : List ℕ) → List ℕ
 bufferLeft header buffer = bufferOf (planRefusal header (length buffer)) (planWords header) buffer
 
 pub record Facts : Type 0 where
-  -- "The desk that sends the public part": header missing or method, n, m, source, words after the header.
-  pub desk : (refused Method ≡ byNumber 1)
-      × (refused Vertices ≡ byNumber 2)
-      × (refused Edges ≡ byNumber 3)
-      × (refused Source ≡ byNumber 4)
-      × (refused Words ≡ byNumber 5)
-  -- "The host that lends buffers": cells, log, results.
-  pub host : (refused Cells ≡ byNumber 6) × (refused Log ≡ byNumber 7) × (refused Results ≡ byNumber 8)
-  -- "The sender of a foreign plan", with place.
-  pub sender : refused (Operation 5) ≡ atPlace 9 5
-  -- "A carrier", with place: yards and spare bits, price.
-  pub carrier : (refused (Edge 5) ≡ atPlace 10 5) × (refused (Weight 5) ≡ atPlace 11 5)
   -- "n is 1 to 32, m is 0 to 128", m is 0 in method 2, the source is below n: headers at the ends, and one past each.
   pub ends : (headerMeets 0x1000010000000000 ≡ 0)
       × (headerMeets 0x100020000800001F ≡ 0)

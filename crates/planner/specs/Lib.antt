@@ -1,4 +1,4 @@
-pub mod Word
+pub mod Tables
 pub mod Refusal
 pub mod Written
 pub mod Facts

@@ -1,30 +1,23 @@
 -- What writing a plan answers, and what the buffer then holds. Rests on plans and refusals.
 use mathlib.Core.Path.{_≡_}
-use mathlib.Core.List.{List, [], _∷_, _++_}
+use mathlib.Core.List.{List, [], _∷_}
 use mathlib.Core.Option.{Option, none, some}
 use Prim.Native.Nat.{ℕ}
 use lib.Dec.{leb}
-use lib.ListN.{length, drop, getD}
+use lib.ListN.{length, getD}
+use Rattle.answers.specs.declared.Refusal.{Refusal}
+use Rattle.answers.specs.Refusal.{Method, Log, need, orElse}
+use Rattle.answers.specs.Told.{Told, refused}
+use Rattle.answers.specs.Buffers.{overwritten}
 use Rattle.plans.specs.Plan.{headerOf, planOf}
-use Rattle.planner.specs.declared.Refusal.{Refusal}
-use Rattle.planner.specs.declared.Refusal.the-variants.{Method, Log}
 use Rattle.planner.specs.declared.Written.{Written}
 use Rattle.planner.specs.declared.Written.the-variants.{Length, Refused}
-use Rattle.planner.specs.Refusal.{Told, refused, need, headerRefusal}
-
--- The first refusal of two checks.
-abbrev pub orElse : Option Refusal → Option Refusal → Option Refusal
-orElse none later = later
-orElse (some r) later = some r
+use Rattle.planner.specs.Refusal.{headerRefusal}
 
 -- 1 to 4, then 7: no header word, the header's own, a buffer of fewer words than the plan.
 unfoldable pub planRefusal : (header : List ℕ) (room : ℕ) → Option Refusal
 planRefusal [] room = some Method
 planRefusal (w ∷ rest) room = orElse (headerRefusal (headerOf w)) (need (leb (length (planOf (headerOf w))) room) Log none)
-
--- The words from the start of a buffer, which stays as it was beyond them.
-abbrev pub overwritten : {X : Type 0} (words buffer : List X) → List X
-overwritten words buffer = words ++ drop (length words) buffer
 
 -- What an answer says.
 abbrev pub toldByWriting : Written → Told

@@ -1,52 +1,27 @@
-// The plan of a header: each of its words by its place, its length, and the plan written to a buffer.
-// Rests on fields, machine and plans.
+// The plan of a header: its length, the table of its method, and the plan written to a buffer.
+// Rests on answers, plans and tables.
 mod method1;
 mod method2;
 
+use answers::Checked;
+use answers::Refusal;
 use plans::Header;
 ghost use mathlib.Core.Path.{_≡_};
-ghost use Prim.Native.Nat.{_<_, _≤_, _^_, _+_};
-ghost use lib.ListN.{length, getD};
-ghost use Rattle.machine.specs.Word.{encode};
-ghost use Rattle.plans.specs.Limits.{far, mostEdges};
-ghost use Rattle.plans.specs.Blocks.{starts};
-ghost use Rattle.plans.specs.Plan.{headerOf, Accepted, planOf, lengthOf, blocksFrom, blockSize, blocksUntil};
-ghost use Rattle.planner.specs.Refusal.{number, placeOf, placeShown, found, headerRefusal};
-ghost use Rattle.planner.specs.Written.{overwritten, WrittenPlan};
-ghost use Rattle.planner.specs.Word.{stop};
+ghost use Prim.Native.Nat.{_≤_};
+ghost use lib.ListN.{length, drop};
+ghost use Rattle.plans.specs.Limits.{knownMethod, mostEdges};
+ghost use Rattle.plans.specs.Plan.{headerOf, Accepted, planOf, verdictCell, lengthOf};
+ghost use Rattle.answers.specs.Refusal.{found};
+ghost use Rattle.answers.specs.Buffers.{overwritten};
+ghost use Rattle.planner.specs.Refusal.{headerRefusal};
+ghost use Rattle.planner.specs.Tables.{cellIn};
+ghost use Rattle.planner.specs.Written.{WrittenPlan};
+ghost use Rattle.tables.specs.Table.{Emits};
 
-// Why a request, a plan or a buffer is refused (document 01, "Who caused it", 1 to 11), with the place where there is one. 12 comes with a
-// run's own answer, so it is no case here.
-pub enum Refusal {
-    Method,
-    Vertices,
-    Edges,
-    Source,
-    Words,
-    Cells,
-    Log,
-    Results,
-    Operation(usize),
-    Edge(usize),
-    Weight(usize),
-}
-
-// The place of a refusal, where there is one.
-pub enum Place {
+// Where the verdict is.
+pub enum VerdictCell {
     At(usize),
-    Nowhere,
-}
-
-// Blocks of one and the same words: the first place of the first, their length, and the place after the last.
-pub struct Blocks {
-    pub from: usize,
-    pub size: usize,
-    pub until: usize,
-}
-
-pub enum Checked {
-    Accepted,
-    Refused(Refusal),
+    Nothing,
 }
 
 // What writing a plan answers: its length, or a refusal.
@@ -55,53 +30,26 @@ pub enum Written {
     Refused(Refusal),
 }
 
-// The number of a refusal.
-pub fn number_of(r: Refusal) -> u64
-    ensures { λ n. ⌜ n ≡ number r ⌝ }
-{
-    match r {
-        Refusal::Method => 1,
-        Refusal::Vertices => 2,
-        Refusal::Edges => 3,
-        Refusal::Source => 4,
-        Refusal::Words => 5,
-        Refusal::Cells => 6,
-        Refusal::Log => 7,
-        Refusal::Results => 8,
-        Refusal::Operation(_) => 9,
-        Refusal::Edge(_) => 10,
-        Refusal::Weight(_) => 11,
-    }
-}
-
-// Its place, where there is one.
-pub fn place_of(r: Refusal) -> Place
-    ensures { λ p. ⌜ p ≡ placeShown (placeOf r) ⌝ }
-{
-    match r {
-        Refusal::Method => Place::Nowhere,
-        Refusal::Vertices => Place::Nowhere,
-        Refusal::Edges => Place::Nowhere,
-        Refusal::Source => Place::Nowhere,
-        Refusal::Words => Place::Nowhere,
-        Refusal::Cells => Place::Nowhere,
-        Refusal::Log => Place::Nowhere,
-        Refusal::Results => Place::Nowhere,
-        Refusal::Operation(place) => Place::At(place),
-        Refusal::Edge(place) => Place::At(place),
-        Refusal::Weight(place) => Place::At(place),
-    }
-}
-
 // A header word taken apart.
 pub fn read_header(word: u64) -> Header
     ensures { λ r. ⌜ r ≡ headerOf word ⌝ }
 {
+    let w = machine::split(word);
     Header {
-        method: fields::field(word, 60, 4),
-        vertices: fields::field(word, 40, 20),
-        edges: fields::field(word, 20, 20),
-        source: fields::field(word, 0, 20),
+        method: w.op,
+        vertices: w.d,
+        edges: w.a,
+        source: w.b,
+    }
+}
+
+fn known(method: u64) -> bool
+    ensures { λ r. ⌜ r ≡ knownMethod method ⌝ }
+{
+    match method {
+        1 => true,
+        2 => true,
+        _ => false,
     }
 }
 
@@ -115,23 +63,20 @@ fn most_edges(method: u64) -> u64
 pub fn check_header(h: Header) -> Checked
     ensures { λ r. ⌜ found r ≡ headerRefusal h ⌝ }
 {
-    if h.method < 1 {
-        return Checked::Refused(Refusal::Method);
-    }
-    if plans::MOST_METHOD < h.method {
-        return Checked::Refused(Refusal::Method);
+    if !known(h.method) {
+        return Checked::Refused(answers::METHOD);
     }
     if h.vertices < 1 {
-        return Checked::Refused(Refusal::Vertices);
+        return Checked::Refused(answers::VERTICES);
     }
     if plans::MOST_VERTICES < h.vertices {
-        return Checked::Refused(Refusal::Vertices);
+        return Checked::Refused(answers::VERTICES);
     }
     if most_edges(h.method) < h.edges {
-        return Checked::Refused(Refusal::Edges);
+        return Checked::Refused(answers::EDGES);
     }
     if h.vertices <= h.source {
-        return Checked::Refused(Refusal::Source);
+        return Checked::Refused(answers::SOURCE);
     }
     Checked::Accepted
 }
@@ -150,71 +95,37 @@ pub fn plan_length(h: Header) -> usize
     square * n + 11 * square + 6 * n + 3
 }
 
-// Where the words of the plan repeat: in the passes of method 1, and in the turns of method 2.
-pub fn blocks_of(h: Header) -> Blocks
+// The cell that the plan's last word opens, the verdict's, where there is one.
+pub fn verdict_cell(h: Header) -> VerdictCell
     requires { ⌜ Accepted h ⌝ }
-    ensures { λ r. ⌜ (r .from ≡ blocksFrom h) × (r .size ≡ blockSize h) × (r .until ≡ blocksUntil h) ⌝ }
+    ensures { λ r. ⌜ cellIn r ≡ verdictCell h ⌝ }
 {
-    let n = h.vertices as usize;
     if h.method == 1 {
-        let m = h.edges as usize;
-        let size = m * (8 * n + 4);
-        return Blocks {
-            from: 3 * n + 3,
-            size,
-            until: 3 * n + 3 + (n - 1) * size,
-        };
+        return VerdictCell::At((3 * h.edges + 3 * h.vertices + 7) as usize);
     }
-    let size = n * n + 11 * n + 2;
-    Blocks {
-        from: 4 * n + 3,
-        size,
-        until: 4 * n + 3 + n * size,
-    }
+    VerdictCell::Nothing
 }
 
-// Word e of the opening's words for vertex v; y, d and p are where the vertices' numbers, distances and parents begin.
-fn start_word(y: u64, d: u64, p: u64, source: u64, v: u64, e: u64) -> u64
-    requires { ⌜ (y < 2 ^ 16) × (d < 2 ^ 16) × (p < 2 ^ 16) × (v < 32) × (e < 3) ⌝ }
-    ensures { λ r. ⌜ r ≡ encode (getD (starts (λ k. y + k) (λ k. d + k) (λ k. p + k) far source v) e stop) ⌝ }
+// The table of the header's plan; the number of its rows.
+fn table_of(h: Header, table: &mut [u64]) -> usize
+    requires { ⌜ Accepted h × (320 ≤ length (now table)) ⌝ }
+    ensures { λ r. ⌜ Emits (now (table .exit)) r (h .source) (drop 1 (planOf h)) ⌝ }
 {
-    if e == 0 {
-        return machine::pack_set(y + v, v as i64);
-    }
-    if e == 2 {
-        return machine::pack_set(p + v, -1);
-    }
-    if v == source {
-        return machine::pack_set(d + v, 0);
-    }
-    machine::pack_set(d + v, plans::FAR)
-}
-
-// The k-th word of the plan: it follows from the header alone.
-pub fn word_at(h: Header, k: usize) -> u64
-    requires { ⌜ Accepted h × (k < lengthOf h) ⌝ }
-    ensures { λ r. ⌜ r ≡ getD (planOf h) k 0 ⌝ }
-{
-    if k == 0 {
-        return machine::pack(h.method, h.vertices, h.edges, h.source);
-    }
-    let j = (k - 1) as u64;
     if h.method == 1 {
-        return method1::word(h.vertices, h.edges, h.source, j);
+        return method1::table(h.vertices, h.edges, table);
     }
-    method2::word(h.vertices, h.source, j)
+    method2::table(h.vertices, table)
 }
 
-// The plan written to the start of a buffer.
-fn fill(h: Header, plan: &mut [u64], size: usize)
-    requires { ⌜ Accepted h × (size ≡ lengthOf h) × (size ≤ length (now plan)) ⌝ }
-    ensures { λ _. ⌜ now (plan .exit) ≡ overwritten (planOf h) (now (plan .entry)) ⌝ }
+// The plan written to the start of a buffer; its length.
+pub fn fill(h: Header, plan: &mut [u64]) -> usize
+    requires { ⌜ Accepted h × (lengthOf h ≤ length (now plan)) ⌝ }
+    ensures { λ r. ⌜ (r ≡ lengthOf h) × (now (plan .exit) ≡ overwritten (planOf h) (now (plan .entry))) ⌝ }
 {
-    let mut k: usize = 0;
-    while k < size {
-        plan[k] = word_at(h, k);
-        k += 1;
-    }
+    let mut table = [0u64; 320];
+    let rows = table_of(h, &mut table);
+    plan[0] = machine::pack(h.method, h.vertices, h.edges, h.source);
+    tables::words::write(&table, rows, h.source, plan, 1)
 }
 
 // The plan of a header, whose first word alone is looked at, written to the start of a buffer; refused, the buffer stays.
@@ -222,7 +133,7 @@ pub fn write_plan(header: &[u64], plan: &mut [u64]) -> Written
     ensures { λ r. ⌜ WrittenPlan (now (header .entry)) (now (plan .entry)) r (now (plan .exit)) ⌝ }
 {
     if header.len() == 0 {
-        return Written::Refused(Refusal::Method);
+        return Written::Refused(answers::METHOD);
     }
     let h = read_header(header[0]);
     if let Checked::Refused(refusal) = check_header(h) {
@@ -230,8 +141,7 @@ pub fn write_plan(header: &[u64], plan: &mut [u64]) -> Written
     }
     let size = plan_length(h);
     if plan.len() < size {
-        return Written::Refused(Refusal::Log);
+        return Written::Refused(answers::LOG);
     }
-    fill(h, plan, size);
-    Written::Length(size)
+    Written::Length(fill(h, plan))
 }

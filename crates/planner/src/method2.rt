@@ -1,121 +1,108 @@
-// The words of method 2's plan by their place, in document 01's order: n vertices, u = n * n, and x where the working cells begin.
-// Rests on machine and plans.
-use machine::ADD;
-use machine::BOTH;
-use machine::COPY;
-use machine::EQUAL;
-use machine::LESS;
-use machine::MOVEIF;
-use machine::pack;
-use machine::pack_set;
-use plans::FAR;
+// Method 2's plan as lines, in document 01's order, and the values of its regions.
+// Rests on tables.
+use tables::A_;
+use tables::ADD;
+use tables::AGAIN;
+use tables::BOTH;
+use tables::COPY;
+use tables::D_;
+use tables::EACH_I;
+use tables::EQUAL;
+use tables::FROM_SOURCE;
+use tables::I;
+use tables::LESS;
+use tables::MINUS_ONE;
+use tables::MOVEIF;
+use tables::N;
+use tables::ROW_I;
+use tables::RUN;
+use tables::SET;
+use tables::UNREACHED;
+use tables::V;
 ghost use mathlib.Core.Path.{_≡_};
-ghost use Prim.Native.Nat.{_+_, _*_, _≤_, _<_};
-ghost use lib.ListN.{length, getD};
+ghost use mathlib.Core.List.{map};
+ghost use Prim.Native.Nat.{ℕ, _<_, _≤_};
+ghost use lib.ListN.{length};
 ghost use Rattle.machine.specs.Word.{encode};
 ghost use Rattle.plans.specs.Limits.{far};
-ghost use Rattle.plans.specs.Method2.{places, opening, choose, fetch, relax, turn, plan};
-ghost use Rattle.planner.specs.Word.{stop};
+ghost use Rattle.plans.specs.Method2.{address, places, plan};
+ghost use Rattle.tables.specs.Table.{Emits};
+ghost use Rattle.planner.specs.Tables.{envOf};
 
-fn opening_word(n: u64, u: u64, source: u64, k: u64) -> u64
-    requires { ⌜ (n ≤ 32) × (u ≡ n * n) × (u ≤ 1024) × (k < 4 * n + 2) ⌝ }
-    ensures { λ r. ⌜ r ≡ encode (getD (opening (places n) far n source) k stop) ⌝ }
-{
-    let x = u + 5 * n;
-    if k == 4 * n {
-        return pack_set(x, FAR);
-    }
-    if 4 * n < k {
-        return pack_set(x + 4, 0);
-    }
-    let v = k / 4;
-    let e = k % 4;
-    if e == 3 {
-        return pack_set(u + 3 * n + v, 1);
-    }
-    crate::start_word(u + 2 * n, u, u + n, source, v, e)
-}
+const U: u64 = 4 << 11;
 
-// Word e of the choice of the least open vertex.
-fn choose_word(n: u64, u: u64, v: u64, e: u64) -> u64
-    requires { ⌜ (n ≤ 32) × (u ≡ n * n) × (u ≤ 1024) × (v < n) × (e < 4) ⌝ }
-    ensures { λ r. ⌜ r ≡ encode (getD (choose (places n) far n v) e stop) ⌝ }
-{
-    let x = u + 5 * n;
-    match e {
-        0 => pack(LESS, x + 5, u + v, x + 1),
-        1 => pack(BOTH, x + 5, x + 5, u + 3 * n + v),
-        2 => pack(MOVEIF, x + 1, x + 5, u + v),
-        _ => pack(MOVEIF, x + 3, x + 5, u + 2 * n + v),
-    }
-}
+const D: u64 = 5 << 11;
 
-// A word of the fetch of v's row.
-fn fetch_word(n: u64, u: u64, v: u64, k: u64) -> u64
-    requires { ⌜ (n ≤ 32) × (u ≡ n * n) × (u ≤ 1024) × (v < n) × (k < n + 2) ⌝ }
-    ensures { λ r. ⌜ r ≡ encode (getD (fetch (places n) far n v) k stop) ⌝ }
-{
-    let x = u + 5 * n;
-    if k == 0 {
-        return pack(EQUAL, x + 5, x + 3, u + 2 * n + v);
-    }
-    if k == 1 {
-        return pack(MOVEIF, u + 3 * n + v, x + 5, x + 4);
-    }
-    let j = k - 2;
-    pack(MOVEIF, u + 4 * n + j, x + 5, v * n + j)
-}
+const P: u64 = 6 << 11;
 
-// Word e of the edge from the chosen vertex to j.
-fn relax_word(n: u64, u: u64, j: u64, e: u64) -> u64
-    requires { ⌜ (n ≤ 32) × (u ≡ n * n) × (u ≤ 1024) × (j < n) × (e < 4) ⌝ }
-    ensures { λ r. ⌜ r ≡ encode (getD (relax (places n) far n j) e stop) ⌝ }
-{
-    let x = u + 5 * n;
-    match e {
-        0 => pack(ADD, x + 2, x + 1, u + 4 * n + j),
-        1 => pack(LESS, x + 5, x + 2, u + j),
-        2 => pack(MOVEIF, u + j, x + 5, x + 2),
-        _ => pack(MOVEIF, u + n + j, x + 5, x + 3),
-    }
-}
+const Y: u64 = 7 << 11;
 
-// A word of a turn.
-fn turn_word(n: u64, u: u64, k: u64) -> u64
-    requires { ⌜ (n ≤ 32) × (u ≡ n * n) × (u ≤ 1024) × (k < n * n + 11 * n + 2) ⌝ }
-    ensures { λ r. ⌜ r ≡ encode (getD (turn (places n) far n) k stop) ⌝ }
-{
-    let x = u + 5 * n;
-    if k == 0 {
-        return pack(COPY, x + 1, x, 0);
-    }
-    if k == 1 {
-        return pack_set(x + 3, -1);
-    }
-    let j = k - 2;
-    if j < 4 * n {
-        return choose_word(n, u, j / 4, j % 4);
-    }
-    if j < 5 * n {
-        return pack(COPY, u + j, x, 0);
-    }
-    let row = j - 5 * n;
-    if row < u + 2 * n {
-        return fetch_word(n, u, row / (n + 2), row % (n + 2));
-    }
-    let last = row - (u + 2 * n);
-    relax_word(n, u, last / 4, last % 4)
-}
+const O: u64 = 8 << 11;
 
-// The k-th operation word of the plan.
-pub fn word(n: u64, source: u64, k: u64) -> u64
-    requires { ⌜ (n ≤ 32) × (k < length (plan (places n) far n source)) ⌝ }
-    ensures { λ r. ⌜ r ≡ encode (getD (plan (places n) far n source) k stop) ⌝ }
+const R: u64 = 9 << 11;
+
+const X: u64 = 10 << 11;
+
+const LINES: [u64; 27] = [
+    // For each v, SET Y+v to v, SET D+v to 0 if v is the source, else FAR, SET P+v to -1, SET O+v to 1.
+    RUN | N << A_ | 4,
+    SET | Y + V << D_ | V << A_,
+    SET | D + V << D_ | FROM_SOURCE,
+    SET | P + V << D_ | MINUS_ONE,
+    SET | O + V << D_ | 1 << A_,
+    // SET X to FAR, SET X+4 to 0.
+    SET | X << D_ | UNREACHED,
+    SET | X + 4 << D_,
+    // n turns.
+    AGAIN | N << A_ | 19,
+    COPY | X + 1 << D_ | X << A_,
+    SET | X + 3 << D_ | MINUS_ONE,
+    RUN | N << A_ | 4,
+    LESS | X + 5 << D_ | D + V << A_ | X + 1,
+    BOTH | X + 5 << D_ | X + 5 << A_ | O + V,
+    MOVEIF | X + 1 << D_ | X + 5 << A_ | D + V,
+    MOVEIF | X + 3 << D_ | X + 5 << A_ | Y + V,
+    RUN | N << A_ | 1,
+    COPY | R + V << D_ | X << A_,
+    EACH_I | N << A_ | 4,
+    EQUAL | X + 5 << D_ | X + 3 << A_ | Y + I,
+    MOVEIF | O + I << D_ | X + 5 << A_ | X + 4,
+    RUN | N << A_ | 1,
+    MOVEIF | R + V << D_ | X + 5 << A_ | U + ROW_I + V,
+    RUN | N << A_ | 4,
+    ADD | X + 2 << D_ | X + 1 << A_ | R + V,
+    LESS | X + 5 << D_ | X + 2 << A_ | D + V,
+    MOVEIF | D + V << D_ | X + 5 << A_ | X + 2,
+    MOVEIF | P + V << D_ | X + 5 << A_ | X + 3,
+];
+
+// 0, n, m, which is 0, n - 1, and where the regions begin.
+fn values(n: u64) -> [u64; 11]
+    requires { ⌜ (0 < n) × (n ≤ 32) ⌝ }
+    ensures { λ r. ⌜ r ≡ envOf n 0 (address (places n)) ⌝ }
 {
     let u = n * n;
-    let first = 4 * n + 2;
-    if k < first {
-        return opening_word(n, u, source, k);
-    }
-    turn_word(n, u, (k - first) % (u + 11 * n + 2))
+    [
+        0,
+        n,
+        0,
+        n - 1,
+        0,
+        u,
+        u + n,
+        u + 2 * n,
+        u + 3 * n,
+        u + 4 * n,
+        u + 5 * n,
+    ]
+}
+
+// The plan's table; the number of its rows.
+pub fn table(n: u64, table: &mut [u64]) -> usize
+    requires { ⌜ (0 < n) × (n ≤ 32) × (320 ≤ length (now table)) ⌝ }
+    ensures { λ r. ⌜ ((source : ℕ) → Emits (now (table .exit)) r source (map encode (plan (places n) far n source))) ⌝ }
+{
+    let env = values(n);
+    tables::rows::assemble(&LINES, n, &env, table);
+    27
 }

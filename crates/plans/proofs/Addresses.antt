@@ -1,10 +1,10 @@
 -- Which cells a plan names and which numbers it holds: all of a plan's cells are there, and every field of its words fits.
--- Rests on blocks and on the machine's laws of words.
+-- Rests on outlines and on the machine's laws of words.
 use mathlib.Core.Bool.{Bool, true, false, cond}
 use Prim.Native.Nat.{ℕ, _+_, _*_, _^_, _<_, _≤_}
 use native.Mathlib.Omega.{arith}
 use lib.Arith.{digits-lt}
-use lib.Dec.{lit<, T}
+use lib.Dec.{T, eqb}
 use lib.IntN.{ℤ, pos, negsuc}
 use lib.ListN.{drop}
 use lib.Signed.{mag}
@@ -12,166 +12,100 @@ use Rattle.machine.specs.Instruction.{Instruction, addresses, constants, All}
 use Rattle.machine.specs.Word.{Fits, encode, admissible}
 use Rattle.machine.specs.Log.{Admitted}
 use Rattle.machine.proofs.Encoded.{admissible-encode}
+use Rattle.plans.specs.declared.Counters.{Counters}
 use Rattle.plans.specs.declared.Header.{Header}
 use Rattle.plans.specs.Limits.{far}
-use Rattle.plans.specs.Blocks.{starts}
+use Rattle.plans.specs.Outline as Outline
+use Rattle.plans.specs.Outline.{fixed, at, after, entry, small, minus-one, unreached, counted, from-source, Line, set, copy, add, less, equal, both, moveif, opens, Outline, counter, start, cellOf, numberOf, instructionOf, instructions}
 use Rattle.plans.specs.Method1 as Method1
 use Rattle.plans.specs.Method2 as Method2
 use Rattle.plans.specs.Plan.{Accepted, instructionsOf, planOf, cellsOf}
-use Rattle.plans.proofs.Blocks.{all-concat, all-flat, all-both, all-map, all-weaken}
+use Rattle.plans.proofs.Blocks.{all-both, all-map, all-weaken}
+use Rattle.plans.proofs.Outlines.{Under, once, under, Each, all-lines}
 use Rattle.plans.proofs.Bounds.{square-le}
 use Rattle.plans.proofs.Headers.{by-method}
 
--- ---- what holds of all cells that a method has places for, and of its numbers, holds of its plan
-
--- The cells: Cell holds of each.
-module _ {A : Type 0} (Cell : A → Type 0) where
-  pub record Places1 (c : Method1.Places A) (n m : ℕ) : Type 0 where
-    pub from : (i : ℕ) → i < m → Cell (c .from i)
-    pub to : (i : ℕ) → i < m → Cell (c .to i)
-    pub weight : (i : ℕ) → i < m → Cell (c .weight i)
-    pub D : (v : ℕ) → v < n → Cell (c .D v)
-    pub P : (v : ℕ) → v < n → Cell (c .P v)
-    pub Y : (v : ℕ) → v < n → Cell (c .Y v)
-    pub X : (j : ℕ) → j < 8 → Cell (c .X j)
-
-  pub record Places2 (c : Method2.Places A) (n : ℕ) : Type 0 where
-    pub U : (v j : ℕ) → v < n → j < n → Cell (c .U (v * n + j))
-    pub D : (v : ℕ) → v < n → Cell (c .D v)
-    pub P : (v : ℕ) → v < n → Cell (c .P v)
-    pub Y : (v : ℕ) → v < n → Cell (c .Y v)
-    pub O : (v : ℕ) → v < n → Cell (c .O v)
-    pub R : (j : ℕ) → j < n → Cell (c .R j)
-    pub X : (j : ℕ) → j < 6 → Cell (c .X j)
-
--- The numbers: vertices, and edges where a method has them, 0 and 1, -1 and FAR.
-module _ (Number : ℤ → Type 0) where
-  pub record Numbers (far : ℤ) (n m : ℕ) : Type 0 where
-    pub vertex : (v : ℕ) → v < n → Number (pos v)
-    pub edge : (i : ℕ) → i < m → Number (pos i)
-    pub zero : Number (pos 0)
-    pub one : Number (pos 1)
-    pub nobody : Number (negsuc 0)
-    pub unreached : Number far
-
-  either : (b : Bool) {x y : ℤ} → Number x → Number y → Number (cond b x y)
-  either true p q = p
-  either false p q = q
+-- ---- what holds of an outline's cells and numbers, whatever the counters, holds of its plan's
 
 module _ {A : Type 0} (Cell : A → Type 0) (Number : ℤ → Type 0) where
   abbrev pub Keeps : Instruction A → Type 0
   Keeps i = All Cell (addresses i) × All Number (constants i)
 
-  module _ (c : Method1.Places A) (far : ℤ) (n m : ℕ) (places : Places1 Cell c n m) (numbers : Numbers Number far n m) where
-    open Places1 places using (from, to, weight, D, P, Y, X)
-    open Numbers numbers using (vertex, edge)
+  module _ (name : (region place : ℕ) → A) (far : ℤ) (n m : ℕ) where
+    -- Cell holds of each place that the spot takes while the counters are below b.
+    abbrev KeptCell : (b : Counters) → Outline.Cell → Type 0
+    KeptCell b (r, fixed j) = Cell (name r j)
+    KeptCell b (r, at l) = (i : ℕ) → i < counter l b → Cell (name r i)
+    KeptCell b (r, after l) = (i : ℕ) → i < counter l b → Cell (name r (i + 1))
+    KeptCell b (r, entry l c) = ((i : ℕ) → i < counter l b * n → Cell (name r i)) × (counter c b ≤ n)
 
-    opening1-keeps : (source : ℕ) → All Keeps (Method1.opening c far n source)
-    unfolding Method1.opening
-    opening1-keeps source =
-        let vertices =
-        all-flat Keeps n (starts (c .Y) (c .D) (c .P) far source) (λ v l. search (Y, D, P, vertex, either Number)) in
-        all-concat Keeps (Method1.openingParts c far n source) (search (X, lit<))
+    abbrev KeptNumber : (b : Counters) → Outline.Number → Type 0
+    KeptNumber b (small j) = Number (pos j)
+    KeptNumber b minus-one = Number (negsuc 0)
+    KeptNumber b unreached = Number far
+    KeptNumber b (counted l) = (i : ℕ) → i < counter l b → Number (pos i)
+    KeptNumber b from-source = Number (pos 0) × Number far
 
-    gather-keeps : (i : ℕ) → i < m → All Keeps (Method1.gather c far n i)
-    unfolding Method1.gather
-    gather-keeps i h =
-        let vertices = all-flat Keeps n (Method1.select c far n i) (λ v l. search (from, D, Y, X, lit<)) in
-        all-concat Keeps (Method1.gatherParts c far n i) (search (weight, X, lit<))
+    abbrev KeptLine : (b : Counters) → Line → Type 0
+    KeptLine b (set d z) = KeptCell b d × KeptNumber b z
+    KeptLine b (copy d a) = KeptCell b d × KeptCell b a
+    KeptLine b (add d x y) = KeptCell b d × KeptCell b x × KeptCell b y
+    KeptLine b (less d x y) = KeptCell b d × KeptCell b x × KeptCell b y
+    KeptLine b (equal d x y) = KeptCell b d × KeptCell b x × KeptCell b y
+    KeptLine b (both d x y) = KeptCell b d × KeptCell b x × KeptCell b y
+    KeptLine b (moveif d x y) = KeptCell b d × KeptCell b x × KeptCell b y
+    KeptLine b (opens a) = KeptCell b a
 
-    relax-keeps : (i : ℕ) → i < m → All Keeps (Method1.relax c far n i)
-    unfolding Method1.relax
-    relax-keeps i h =
-        let vertices = all-flat Keeps n (Method1.update c far n i) (λ v l. search (to, D, P, Y, X, lit<)) in
-        all-concat Keeps (Method1.relaxParts c far n i) (search (gather-keeps, edge, X, lit<))
+    abbrev pub Kept : Outline → Type 0
+    Kept o = Each n m KeptLine o once
 
-    check-keeps : (i : ℕ) → i < m → All Keeps (Method1.check c far n i)
-    unfolding Method1.check
-    check-keeps i h =
-        let vertices = all-flat Keeps n (Method1.test c far n i) (λ v l. search (to, D, Y, X, lit<)) in
-        all-concat Keeps (Method1.checkParts c far n i) (search gather-keeps)
+    module _ (source : ℕ) where
+      kept-cell : (c : Outline.Cell) (b k : Counters) → Under b k → KeptCell b c → Cell (cellOf name far n m source k c)
+      kept-cell (r, fixed j) b k u h = h
+      kept-cell (r, at l) b k u h = h _ (under l b k u)
+      kept-cell (r, after l) b k u h = h _ (under l b k u)
+      kept-cell (r, entry l c) b k u h = h .0 _ (digits-lt (under l b k u) (omega (arith, under c b k u)))
 
-    pub plan1-keeps : (source : ℕ) → All Keeps (Method1.plan c far n m source)
-    unfolding Method1.plan Method1.pass
-    plan1-keeps source =
-        let edges = all-flat Keeps m (Method1.relax c far n) relax-keeps in
-        let checks = all-flat Keeps m (Method1.check c far n) check-keeps in
-        all-concat Keeps (Method1.planParts c far n m source) (search (opening1-keeps, all-flat Keeps, X, lit<))
+      either : (t : Bool) {x y : ℤ} → Number x → Number y → Number (cond t x y)
+      either true p q = p
+      either false p q = q
 
-  module _ (c : Method2.Places A) (far : ℤ) (n : ℕ) (places : Places2 Cell c n) (numbers : Numbers Number far n 0) where
-    open Places2 places using (U, D, P, Y, O, R, X)
-    open Numbers numbers using (vertex)
+      kept-number : (z : Outline.Number) (b k : Counters) → Under b k → KeptNumber b z → Number (numberOf far source k z)
+      kept-number (small j) b k u h = h
+      kept-number minus-one b k u h = h
+      kept-number unreached b k u h = h
+      kept-number (counted l) b k u h = h _ (under l b k u)
+      kept-number from-source b k u h = either (eqb (k .inner) source) (h .0) (h .1)
 
-    opening2-keeps : (source : ℕ) → All Keeps (Method2.opening c far n source)
-    unfolding Method2.opening
-    opening2-keeps source =
-        let vertices = all-flat Keeps n (Method2.start c far n source) (λ v l. search (Y, D, P, O, vertex, either Number)) in
-        all-concat Keeps (Method2.openingParts c far n source) (search (X, lit<))
+      kept-line : (x : Line) (b k : Counters) → Under b k → KeptLine b x → Keeps (instructionOf name far n m source k x)
+      kept-line (set d z) b k u h = search (kept-cell, kept-number)
+      kept-line (copy d a) b k u h = search kept-cell
+      kept-line (add d x y) b k u h = search kept-cell
+      kept-line (less d x y) b k u h = search kept-cell
+      kept-line (equal d x y) b k u h = search kept-cell
+      kept-line (both d x y) b k u h = search kept-cell
+      kept-line (moveif d x y) b k u h = search kept-cell
+      kept-line (opens a) b k u h = search kept-cell
 
-    fetch-keeps : (v : ℕ) → v < n → All Keeps (Method2.fetch c far n v)
-    unfolding Method2.fetch
-    fetch-keeps v h =
-        let row = all-flat Keeps n (Method2.fetchCell c far n v) (λ j l. search (U, R, X, lit<)) in
-        all-concat Keeps (Method2.fetchParts c far n v) (search (Y, O, X, lit<))
-
-    turn-keeps : All Keeps (Method2.turn c far n)
-    unfolding Method2.turn
-    turn-keeps =
-        let chosen = all-flat Keeps n (Method2.choose c far n) (λ v l. search (D, Y, O, X, lit<)) in
-        let cleared = all-flat Keeps n (Method2.clear c far n) (λ j l. search (R, X, lit<)) in
-        let fetched = all-flat Keeps n (Method2.fetch c far n) fetch-keeps in
-        let relaxed = all-flat Keeps n (Method2.relax c far n) (λ j l. search (D, P, R, X, lit<)) in
-        all-concat Keeps (Method2.turnParts c far n) (search (X, lit<))
-
-    pub plan2-keeps : (source : ℕ) → All Keeps (Method2.plan c far n source)
-    unfolding Method2.plan
-    plan2-keeps source =
-        let turns = all-flat Keeps n (λ t. Method2.turn c far n) (λ t l. turn-keeps) in
-        all-concat Keeps (Method2.planParts c far n source) (search opening2-keeps)
-
--- ---- the methods' own places: cells below a count, numbers of 40 bits
-
-abbrev pub Below : (count : ℕ) → Instruction ℕ → Type 0
-Below count = Keeps (λ a. a < count) (λ z. mag z < 2 ^ 39)
-
-places1-below : (n m count : ℕ) → Method1.cellCount n m ≤ count → Places1 (λ a. a < count) (Method1.places n m) n m
-places1-below n m count h = omega arith
-
-places2-below : (n count : ℕ) → Method2.cellCount n ≤ count → Places2 (λ a. a < count) (Method2.places n) n
-places2-below n count h =
-    record {
-      U = λ v j p q. omega (arith, digits-lt {q = v} {m = n} {r = j} {c = n} p q);
-      D = omega arith;
-      P = omega arith;
-      Y = omega arith;
-      O = omega arith;
-      R = omega arith;
-      X = omega arith;
-    }
-
-numbers-small : (n m : ℕ) → n ≤ 2 ^ 39 → m ≤ 2 ^ 39 → Numbers (λ z. mag z < 2 ^ 39) far n m
-numbers-small n m h l = omega arith
-
-pub below1 : (n m source count : ℕ) → n ≤ 2 ^ 39 → m ≤ 2 ^ 39 → Method1.cellCount n m ≤ count
-    → All (Below count) (Method1.plan (Method1.places n m) far n m source)
-below1 n m source count h l k =
-    plan1-keeps (λ a. a < count) (λ z. mag z < 2 ^ 39) (Method1.places n m) far n m (places1-below n m count k)
-    (numbers-small n m h l) source
-
-pub below2 : (n source count : ℕ) → n ≤ 2 ^ 39 → Method2.cellCount n ≤ count
-    → All (Below count) (Method2.plan (Method2.places n) far n source)
-below2 n source count h k =
-    plan2-keeps (λ a. a < count) (λ z. mag z < 2 ^ 39) (Method2.places n) far n (places2-below n count k)
-    (numbers-small n 0 h (omega arith)) source
+      pub keeps : (o : Outline) → Kept o → All Keeps (instructions name far n m source o start)
+      keeps o h = all-lines name far n m source Keeps KeptLine kept-line o once start (omega arith) h
 
 -- ---- the plan of a header
 
+-- Cells below a count, numbers of 40 bits.
+abbrev pub Below : (count : ℕ) → Instruction ℕ → Type 0
+Below count = Keeps (λ a. a < count) (λ z. mag z < 2 ^ 39)
+
+-- A call of `search` takes so many steps only: one for each of the outline's first parts.
 pub below-plan : (h : Header) → Accepted h → (count : ℕ) → cellsOf h ≤ count → All (Below count) (instructionsOf h)
-unfolding instructionsOf cellsOf
+unfolding instructionsOf cellsOf Method1.plan Method2.plan
 below-plan =
     by-method (λ h. (count : ℕ) → cellsOf h ≤ count → All (Below count) (instructionsOf h))
-    (λ n m source a count l. below1 n m source count (omega arith) (omega arith) l)
-    (λ n source a count l. below2 n source count (omega arith) l)
+    (λ n m source a count l.
+    keeps _ _ (Method1.address (Method1.places n m)) far n m source Method1.outline
+    (search arith, (search arith, (search arith, (search arith, search arith)))))
+    (λ n source a count l.
+    keeps _ _ (Method2.address (Method2.places n)) far n 0 source Method2.outline (search arith, search arith))
 
 pub cells-few : (h : Header) → Accepted h → cellsOf h ≤ 1190
 unfolding cellsOf

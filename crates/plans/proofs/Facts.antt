@@ -4,21 +4,21 @@ use native.Mathlib.Omega.{arith}
 use Rattle.fields.specs.Fields.{bitsOf}
 use Rattle.machine.specs.Word.{packed, packedSet}
 use Rattle.plans.specs.Blocks.{flat}
+use Rattle.plans.specs.Outline.{instructions}
 use Rattle.plans.specs.Method1 as Method1
 use Rattle.plans.specs.Method2 as Method2
-use Rattle.plans.specs.Plan.{headerOf, Accepted, instructionsOf, planOf, cellsOf}
+use Rattle.plans.specs.Plan.{headerOf, Accepted, instructionsOf, planOf, cellsOf, verdictCell}
 use Rattle.plans.specs.Facts.{Facts}
 
 pub facts : Facts
-unfolding bitsOf packed packedSet flat Method1.opening Method1.gather Method1.relax Method1.check Method1.pass Method1.plan Method2.opening Method2.fetch Method2.turn Method2.plan instructionsOf planOf cellsOf
+unfolding bitsOf packed packedSet flat instructions Method1.plan Method2.plan instructionsOf planOf cellsOf verdictCell
 facts =
     record {
       far-is = refl;
       header-fields = (refl, refl, refl);
       least1 =
           record {
-            method-some = omega arith;
-            method-known = omega arith;
+            known = tt;
             vertices-some = omega arith;
             vertices-few = omega arith;
             edges-few = omega arith;
@@ -26,8 +26,7 @@ facts =
           };
       most1 =
           record {
-            method-some = omega arith;
-            method-known = omega arith;
+            known = tt;
             vertices-some = omega arith;
             vertices-few = omega arith;
             edges-few = omega arith;
@@ -35,8 +34,7 @@ facts =
           };
       least2 =
           record {
-            method-some = omega arith;
-            method-known = omega arith;
+            known = tt;
             vertices-some = omega arith;
             vertices-few = omega arith;
             edges-few = omega arith;
@@ -44,15 +42,14 @@ facts =
           };
       most2 =
           record {
-            method-some = omega arith;
-            method-known = omega arith;
+            known = tt;
             vertices-some = omega arith;
             vertices-few = omega arith;
             edges-few = omega arith;
             source-there = omega arith;
           };
-      method0 = λ (a : Accepted (headerOf 0x0000010000000000)). omega arith;
-      method3 = λ (a : Accepted (headerOf 0x3000010000000000)). omega arith;
+      method0 = λ a. a .known;
+      method3 = λ a. a .known;
       vertices0 = λ (a : Accepted (headerOf 0x1000000000000000)). omega arith;
       vertices33 = λ (a : Accepted (headerOf 0x1000210000000000)). omega arith;
       edges129 = λ (a : Accepted (headerOf 0x1000010008100000)). omega arith;
@@ -61,6 +58,7 @@ facts =
       source-past2 = λ (a : Accepted (headerOf 0x2000010000000001)). omega arith;
       weights = (refl, refl, refl);
       cells = (refl, refl, refl, refl);
+      verdict = (refl, refl, refl);
       plan1 = refl;
       plan2 = refl;
     }

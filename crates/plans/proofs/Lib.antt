@@ -1,11 +1,9 @@
-pub mod Facts
 pub mod Blocks
+pub mod Outlines
 pub mod Weights
 pub mod Bounds
 pub mod Headers
+pub mod Same
 pub mod Addresses
 pub mod Figures
-pub mod Same
-pub mod At1
-pub mod At2
-pub mod Repeats
+pub mod Facts

@@ -4,13 +4,12 @@ use mathlib.Core.Path.{_≡_, sym, ap, _∙_}
 use mathlib.Core.Logic.{_↔_}
 use mathlib.Core.List.{List}
 use Prim.Native.Nat.{ℕ, _^_, _<_}
-use native.Mathlib.Omega.{arith}
 use lib.ListN.{getD}
-use Rattle.machine.proofs.Parted.{FieldsAre}
+use Rattle.machine.specs.Word.{FieldsAre}
 use Rattle.machine.proofs.Encoded.{fields-packed, packed-fields}
 use Rattle.plans.specs.declared.Header.{Header}
 use Rattle.plans.specs.Plan.{headerOf, headerWord, Accepted, planOf}
-use Rattle.plans.proofs.Headers.{edges-small}
+use Rattle.plans.proofs.Headers.{fields-small}
 
 pub headerWord-headerOf : (w : ℕ) → w < 2 ^ 64 → headerWord (headerOf w) ≡ w
 headerWord-headerOf w h = packed-fields w h
@@ -18,8 +17,8 @@ headerWord-headerOf w h = packed-fields w h
 pub fields-header : (h : Header) → Accepted h
     → FieldsAre (headerWord h) (h .method) (h .vertices) (h .edges) (h .source)
 fields-header h a =
-    let m = edges-small h a in
-    fields-packed _ _ _ _ (omega arith) (omega arith) (omega arith) (omega arith)
+    let (method, vertices, edges, source) = fields-small h a in
+    fields-packed _ _ _ _ method vertices edges source
 
 pub headerOf-headerWord : (h : Header) → Accepted h → headerOf (headerWord h) ≡ h
 headerOf-headerWord h a =

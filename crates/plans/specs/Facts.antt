@@ -2,10 +2,11 @@
 -- words agrees with it. Lengths and rounds at the limits are in proofs/Figures (`largest1`, `largest2`). Rests on the definitions alone.
 use mathlib.Core.Path.{_≡_}
 use mathlib.Core.List.{List, [], _∷_, _++_}
+use mathlib.Core.Option.{none, some}
 use Prim.Native.Nat.{ℕ}
 use lib.IntN.{pos, negsuc}
 use Rattle.plans.specs.Limits.{far, mostWeight, leastWeight}
-use Rattle.plans.specs.Plan.{headerOf, headerWord, Accepted, planOf, cellsOf}
+use Rattle.plans.specs.Plan.{headerOf, headerWord, Accepted, planOf, cellsOf, verdictCell}
 
 -- ---- "Plan of method 1" at n = 2, m = 2, source 1. Cells: from 0, to 2, price 4, D at 6, P at 8, Y at 10, X at 12.
 
@@ -116,6 +117,10 @@ pub record Facts : Type 0 where
       × (cellsOf (headerOf 0x1000020000200001) ≡ 20)
       × (cellsOf (headerOf 0x200020000000001F) ≡ 1190)
       × (cellsOf (headerOf 0x2000020000000001) ≡ 20)
+  -- "OPEN X+7: the verdict": at the plans below and at the limits; method 2 has none.
+  pub verdict : (verdictCell (headerOf 0x1000020000200001) ≡ some 19)
+      × (verdictCell (headerOf 0x100020000800001F) ≡ some 487)
+      × (verdictCell (headerOf 0x2000020000000001) ≡ none)
   -- "Plan of method 1": the opening, n-1 passes over all i, the check over all i, OPEN X+7.
   pub plan1 : planOf (headerOf 0x1000020000200001)
       ≡ (0x1000020000200001 ∷ opening1) ++ gather0 ++ relax0 ++ gather1 ++ relax1 ++ gather0 ++ check0 ++ gather1 ++ check1

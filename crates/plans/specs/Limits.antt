@@ -1,4 +1,5 @@
 -- The numbers that document 01 fixes, each named once. Rests on the toolchain's library alone.
+use mathlib.Core.Bool.{Bool, false, true}
 use mathlib.Core.List.{List, [], _∷_}
 use Prim.Native.Nat.{ℕ, _-_, _^_}
 use lib.IntN.{ℤ, pos, negsuc}
@@ -12,10 +13,11 @@ far = pos (2 ^ 38)
 abbrev pub byMethod {ℓ} : {X : Type ℓ} → (method : ℕ) (other : X) → List X → X
 byMethod method other row = getD (other ∷ row) method other
 
--- The greatest method number, and the greatest counts of vertices and edges.
-abbrev pub mostMethod : ℕ
-mostMethod = 2
+-- The methods that there are.
+abbrev pub knownMethod : (method : ℕ) → Bool
+knownMethod method = byMethod method false (true ∷ true ∷ [])
 
+-- The greatest counts of vertices and edges.
 abbrev pub mostVertices : ℕ
 mostVertices = 32
 

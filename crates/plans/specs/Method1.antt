@@ -1,10 +1,11 @@
 -- Method 1, Bellman-Ford over private edges: its cells and its plan (document 01, "Plan of method 1").
--- Rests on the instructions and on blocks. "v" runs upward over the n vertices, "i" over the m edges.
+-- Rests on outlines. "v" runs upward over the n vertices, "i" over the m edges.
 use mathlib.Core.List.{List, [], _∷_}
-use Prim.Native.Nat.{ℕ, _+_, _-_, _*_}
-use lib.IntN.{ℤ, pos}
-use Rattle.machine.specs.Instruction.{Instruction, SET, COPY, ADD, LESS, EQUAL, BOTH, MOVEIF, OPEN}
-use Rattle.plans.specs.Blocks.{flat, concat, starts}
+use Prim.Native.Nat.{ℕ, _+_, _*_}
+use lib.IntN.{ℤ}
+use lib.ListN.{getD}
+use Rattle.machine.specs.Instruction.{Instruction}
+use Rattle.plans.specs.Outline.{middle, inner, vertices, others, edges, Spot, fixed, at, Cell, small, minus-one, unreached, counted, from-source, Line, set, copy, add, less, equal, both, moveif, opens, Outline, end, line, run, each, again, _▸_, start, instructions}
 
 -- Where the cells are: the edges' ends and weights (price), distances, parents, the vertices' numbers, and working cells.
 pub record Places (A : Type 0) : Type 0 where
@@ -28,71 +29,85 @@ places n m =
       X = λ j. 3 * m + 3 * n + j;
     }
 
+-- The regions in this order.
+abbrev pub address : {A : Type 0} → Places A → (region place : ℕ) → A
+address c region = getD (c .from ∷ c .to ∷ c .weight ∷ c .D ∷ c .P ∷ c .Y ∷ c .X ∷ []) region (c .from)
+
 abbrev pub cellCount : (n m : ℕ) → ℕ
 cellCount n m = 3 * m + 3 * n + 8
 
-module _ {A : Type 0} (c : Places A) (far : ℤ) (n : ℕ) where
-  open Places c using (from, to, weight, D, P, Y, X)
+-- ---- the cells of a line
 
-  -- ---- the opening
+abbrev v : Spot
+v = at inner
 
-  abbrev pub openingParts : (source : ℕ) → List (List (Instruction A))
-  openingParts source = flat n (starts Y D P far source) ∷ (SET (X 0) far ∷ SET (X 7) (pos 0) ∷ []) ∷ []
+abbrev i : Spot
+i = at middle
 
-  unfoldable pub opening : (source : ℕ) → List (Instruction A)
-  opening source = concat (openingParts source)
+abbrev from : Spot → Cell
+from s = (0, s)
 
-  -- ---- edge i, in a pass and in the check
+abbrev to : Spot → Cell
+to s = (1, s)
 
-  -- The from-vertex's distance to X+1.
-  abbrev pub select : (i v : ℕ) → List (Instruction A)
-  select i v = EQUAL (X 5) (from i) (Y v) ∷ MOVEIF (X 1) (X 5) (D v) ∷ []
+abbrev weight : Spot → Cell
+weight s = (2, s)
 
-  -- Then the new total to X+2, and whether the from-vertex is reached to X+4.
-  abbrev pub gatherParts : (i : ℕ) → List (List (Instruction A))
-  gatherParts i =
-      (COPY (X 1) (X 0) ∷ [])
-      ∷ flat n (select i)
-      ∷ (ADD (X 2) (X 1) (weight i) ∷ LESS (X 4) (X 1) (X 0) ∷ [])
-      ∷ []
+abbrev D : Spot → Cell
+D s = (3, s)
 
-  unfoldable pub gather : (i : ℕ) → List (Instruction A)
-  gather i = concat (gatherParts i)
+abbrev P : Spot → Cell
+P s = (4, s)
 
-  -- Whether v is the to-vertex and gains, to X+6; then `rest`.
-  abbrev pub gains : (i v : ℕ) (rest : List (Instruction A)) → List (Instruction A)
-  gains i v rest =
-      EQUAL (X 5) (to i) (Y v)
-      ∷ LESS (X 6) (X 2) (D v)
-      ∷ BOTH (X 6) (X 6) (X 4)
-      ∷ BOTH (X 6) (X 6) (X 5)
-      ∷ rest
+abbrev Y : Spot → Cell
+Y s = (5, s)
 
-  abbrev pub update : (i v : ℕ) → List (Instruction A)
-  update i v = gains i v (MOVEIF (D v) (X 6) (X 2) ∷ MOVEIF (P v) (X 6) (X 3) ∷ [])
+abbrev X : ℕ → Cell
+X j = (6, fixed j)
 
-  abbrev pub test : (i v : ℕ) → List (Instruction A)
-  test i v = gains i v (MOVEIF (X 7) (X 6) (X 6) ∷ [])
+-- ---- edge i, in a pass and in the check
 
-  abbrev pub relaxParts : (i : ℕ) → List (List (Instruction A))
-  relaxParts i = gather i ∷ (SET (X 3) (pos i) ∷ []) ∷ flat n (update i) ∷ []
+-- The from-vertex's distance to X+1, then the new total to X+2, and whether the from-vertex is reached to X+4.
+abbrev pub gather : Outline → Outline
+gather rest =
+    line (copy (X 1) (X 0))
+    ▸ run vertices (equal (X 5) (from i) (Y v) ∷ moveif (X 1) (X 5) (D v) ∷ [])
+    ▸ line (add (X 2) (X 1) (weight i))
+    ▸ line (less (X 4) (X 1) (X 0))
+    ▸ rest
 
-  unfoldable pub relax : (i : ℕ) → List (Instruction A)
-  relax i = concat (relaxParts i)
+-- Whether v is the to-vertex and gains, to X+6; then `rest`.
+abbrev pub gains : List Line → List Line
+gains rest =
+    equal (X 5) (to i) (Y v)
+    ∷ less (X 6) (X 2) (D v)
+    ∷ both (X 6) (X 6) (X 4)
+    ∷ both (X 6) (X 6) (X 5)
+    ∷ rest
 
-  abbrev pub checkParts : (i : ℕ) → List (List (Instruction A))
-  checkParts i = gather i ∷ flat n (test i) ∷ []
+abbrev pub update : List Line
+update = gains (moveif (D v) (X 6) (X 2) ∷ moveif (P v) (X 6) (X 3) ∷ [])
 
-  unfoldable pub check : (i : ℕ) → List (Instruction A)
-  check i = concat (checkParts i)
+abbrev pub test : List Line
+test = gains (moveif (X 7) (X 6) (X 6) ∷ [])
 
-  -- ---- the plan: the opening, n-1 passes over all edges, the check, and the verdict opened
+abbrev pub relax : Outline
+relax = gather ▸ line (set (X 3) (counted middle)) ▸ run vertices update ▸ end
 
-  unfoldable pub pass : (m : ℕ) → List (Instruction A)
-  pass m = flat m relax
+abbrev pub check : Outline
+check = gather ▸ run vertices test ▸ end
 
-  abbrev pub planParts : (m source : ℕ) → List (List (Instruction A))
-  planParts m source = opening source ∷ flat (n - 1) (λ p. pass m) ∷ flat m check ∷ (OPEN (X 7) ∷ []) ∷ []
+-- ---- the plan: the opening, n-1 passes over all edges, the check, and the verdict opened
 
-  unfoldable pub plan : (m source : ℕ) → List (Instruction A)
-  plan m source = concat (planParts m source)
+abbrev pub outline : Outline
+outline =
+    run vertices (set (Y v) (counted inner) ∷ set (D v) from-source ∷ set (P v) minus-one ∷ [])
+    ▸ line (set (X 0) unreached)
+    ▸ line (set (X 7) (small 0))
+    ▸ again others (each middle edges relax ▸ end)
+    ▸ each middle edges check
+    ▸ line (opens (X 7))
+    ▸ end
+
+unfoldable pub plan : {A : Type 0} (c : Places A) (far : ℤ) (n m source : ℕ) → List (Instruction A)
+plan c far n m source = instructions (address c) far n m source outline start

@@ -1,10 +1,11 @@
 -- Method 2, Dijkstra over a private table: its cells and its plan (document 01, "Plan of method 2").
--- Rests on the instructions and on blocks. "v" and "j" run upward over the n vertices.
-use mathlib.Core.List.{List, [], _∷_, _++_}
+-- Rests on outlines. "v" and "j" run upward over the n vertices; "j" is the inner counter where both run.
+use mathlib.Core.List.{List, [], _∷_}
 use Prim.Native.Nat.{ℕ, _+_, _*_}
-use lib.IntN.{ℤ, pos, negsuc}
-use Rattle.machine.specs.Instruction.{Instruction, SET, COPY, ADD, LESS, EQUAL, BOTH, MOVEIF}
-use Rattle.plans.specs.Blocks.{flat, concat, starts}
+use lib.IntN.{ℤ}
+use lib.ListN.{getD}
+use Rattle.machine.specs.Instruction.{Instruction}
+use Rattle.plans.specs.Outline.{middle, inner, vertices, Spot, fixed, at, entry, Cell, small, minus-one, unreached, counted, from-source, Line, set, copy, add, less, equal, both, moveif, Outline, end, line, run, each, again, _▸_, start, instructions}
 
 -- Where the cells are: the table by rows, distances, parents, the vertices' numbers, which are open, the chosen row, and working cells.
 pub record Places (A : Type 0) : Type 0 where
@@ -28,72 +29,98 @@ places n =
       X = λ j. n * n + 5 * n + j;
     }
 
+-- The regions in this order.
+abbrev pub address : {A : Type 0} → Places A → (region place : ℕ) → A
+address c region = getD (c .U ∷ c .D ∷ c .P ∷ c .Y ∷ c .O ∷ c .R ∷ c .X ∷ []) region (c .U)
+
 abbrev pub cellCount : (n : ℕ) → ℕ
 cellCount n = n * n + 5 * n + 6
 
-module _ {A : Type 0} (c : Places A) (far : ℤ) (n : ℕ) where
-  open Places c using (U, D, P, Y, O, R, X)
+-- ---- the cells of a line
 
-  -- ---- the opening
+-- v where no j runs in it, and j.
+abbrev v : Spot
+v = at inner
 
-  abbrev pub start : (source v : ℕ) → List (Instruction A)
-  start source v = starts Y D P far source v ++ (SET (O v) (pos 1) ∷ [])
+abbrev j : Spot
+j = at inner
 
-  abbrev pub openingParts : (source : ℕ) → List (List (Instruction A))
-  openingParts source = flat n (start source) ∷ (SET (X 0) far ∷ SET (X 4) (pos 0) ∷ []) ∷ []
+-- v where j runs in it, and place v*n + j of the table.
+abbrev v₁ : Spot
+v₁ = at middle
 
-  unfoldable pub opening : (source : ℕ) → List (Instruction A)
-  opening source = concat (openingParts source)
+abbrev vj : Spot
+vj = entry middle inner
 
-  -- ---- a turn
+abbrev U : Spot → Cell
+U s = (0, s)
 
-  -- The least distance of an open vertex to X+1, and that vertex to X+3.
-  abbrev pub choose : (v : ℕ) → List (Instruction A)
-  choose v =
-      LESS (X 5) (D v) (X 1)
-      ∷ BOTH (X 5) (X 5) (O v)
-      ∷ MOVEIF (X 1) (X 5) (D v)
-      ∷ MOVEIF (X 3) (X 5) (Y v)
-      ∷ []
+abbrev D : Spot → Cell
+D s = (1, s)
 
-  abbrev pub clear : (j : ℕ) → List (Instruction A)
-  clear j = COPY (R j) (X 0) ∷ []
+abbrev P : Spot → Cell
+P s = (2, s)
 
-  -- v's row to R if v is the chosen vertex, which is then closed.
-  abbrev pub fetchCell : (v j : ℕ) → List (Instruction A)
-  fetchCell v j = MOVEIF (R j) (X 5) (U (v * n + j)) ∷ []
+abbrev Y : Spot → Cell
+Y s = (3, s)
 
-  abbrev pub fetchParts : (v : ℕ) → List (List (Instruction A))
-  fetchParts v = (EQUAL (X 5) (X 3) (Y v) ∷ MOVEIF (O v) (X 5) (X 4) ∷ []) ∷ flat n (fetchCell v) ∷ []
+abbrev O : Spot → Cell
+O s = (4, s)
 
-  unfoldable pub fetch : (v : ℕ) → List (Instruction A)
-  fetch v = concat (fetchParts v)
+abbrev R : Spot → Cell
+R s = (5, s)
 
-  -- The total by the chosen vertex to X+2, taken where it is less.
-  abbrev pub relax : (j : ℕ) → List (Instruction A)
-  relax j =
-      ADD (X 2) (X 1) (R j)
-      ∷ LESS (X 5) (X 2) (D j)
-      ∷ MOVEIF (D j) (X 5) (X 2)
-      ∷ MOVEIF (P j) (X 5) (X 3)
-      ∷ []
+abbrev X : ℕ → Cell
+X j = (6, fixed j)
 
-  abbrev pub turnParts : List (List (Instruction A))
-  turnParts =
-      (COPY (X 1) (X 0) ∷ SET (X 3) (negsuc 0) ∷ [])
-      ∷ flat n choose
-      ∷ flat n clear
-      ∷ flat n fetch
-      ∷ flat n relax
-      ∷ []
+-- ---- a turn
 
-  unfoldable pub turn : List (Instruction A)
-  turn = concat turnParts
+-- The least distance of an open vertex to X+1, and that vertex to X+3.
+abbrev pub choose : List Line
+choose =
+    less (X 5) (D v) (X 1)
+    ∷ both (X 5) (X 5) (O v)
+    ∷ moveif (X 1) (X 5) (D v)
+    ∷ moveif (X 3) (X 5) (Y v)
+    ∷ []
 
-  -- ---- the plan: the opening and n turns
+-- v's row to R if v is the chosen vertex, which is then closed.
+abbrev pub fetch : Outline
+fetch =
+    line (equal (X 5) (X 3) (Y v₁))
+    ▸ line (moveif (O v₁) (X 5) (X 4))
+    ▸ run vertices (moveif (R j) (X 5) (U vj) ∷ [])
+    ▸ end
 
-  abbrev pub planParts : (source : ℕ) → List (List (Instruction A))
-  planParts source = opening source ∷ flat n (λ t. turn) ∷ []
+-- The total by the chosen vertex to X+2, taken where it is less.
+abbrev pub relax : List Line
+relax =
+    add (X 2) (X 1) (R j)
+    ∷ less (X 5) (X 2) (D j)
+    ∷ moveif (D j) (X 5) (X 2)
+    ∷ moveif (P j) (X 5) (X 3)
+    ∷ []
 
-  unfoldable pub plan : (source : ℕ) → List (Instruction A)
-  plan source = concat (planParts source)
+abbrev pub turn : Outline
+turn =
+    line (copy (X 1) (X 0))
+    ▸ line (set (X 3) minus-one)
+    ▸ run vertices choose
+    ▸ run vertices (copy (R j) (X 0) ∷ [])
+    ▸ each middle vertices fetch
+    ▸ run vertices relax
+    ▸ end
+
+-- ---- the plan: the opening and n turns
+
+abbrev pub outline : Outline
+outline =
+    run vertices
+    (set (Y v) (counted inner) ∷ set (D v) from-source ∷ set (P v) minus-one ∷ set (O v) (small 1) ∷ [])
+    ▸ line (set (X 0) unreached)
+    ▸ line (set (X 4) (small 0))
+    ▸ again vertices turn
+    ▸ end
+
+unfoldable pub plan : {A : Type 0} (c : Places A) (far : ℤ) (n source : ℕ) → List (Instruction A)
+plan c far n source = instructions (address c) far n 0 source outline start

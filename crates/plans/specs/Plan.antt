@@ -1,12 +1,14 @@
 -- The plan of a header, as words: it follows from the header alone. Its length, its rounds and the cells it needs, as document 01 gives them.
 -- Rests on the methods' plans and on the machine's words.
 use mathlib.Core.List.{List, [], _∷_, map}
+use mathlib.Core.Option.{Option, none, some}
 use Prim.Native.Nat.{ℕ, _+_, _-_, _*_, _<_, _≤_}
+use lib.Dec.{T}
 use Rattle.fields.specs.Fields.{fieldOf}
 use Rattle.machine.specs.Instruction.{Instruction}
 use Rattle.machine.specs.Word.{packed, encode}
 use Rattle.plans.specs.declared.Header.{Header}
-use Rattle.plans.specs.Limits.{far, byMethod, mostMethod, mostVertices, mostEdges}
+use Rattle.plans.specs.Limits.{far, byMethod, knownMethod, mostVertices, mostEdges}
 use Rattle.plans.specs.Method1 as Method1
 use Rattle.plans.specs.Method2 as Method2
 
@@ -20,8 +22,7 @@ headerWord h = packed (h .method) (h .vertices) (h .edges) (h .source)
 
 -- Within the limits: refusals 1 to 4 let it pass.
 pub record Accepted (h : Header) : Type 0 where
-  pub method-some : 0 < h .method
-  pub method-known : h .method ≤ mostMethod
+  pub known : T (knownMethod (h .method))
   pub vertices-some : 0 < h .vertices
   pub vertices-few : h .vertices ≤ mostVertices
   pub edges-few : h .edges ≤ mostEdges (h .method)
@@ -42,6 +43,15 @@ planOf h = headerWord h ∷ map encode (instructionsOf h)
 unfoldable pub cellsOf : Header → ℕ
 cellsOf h = byMethod (h .method) 0 (Method1.cellCount (h .vertices) (h .edges) ∷ Method2.cellCount (h .vertices) ∷ [])
 
+-- The cell that its last word opens, the verdict's; none in a method without a verdict.
+unfoldable pub verdictCell : Header → Option ℕ
+verdictCell h = byMethod (h .method) none (some (Method1.places (h .vertices) (h .edges) .X 7) ∷ none ∷ [])
+
+-- The words that a run publishes: the verdict, where there is a cell for it.
+abbrev pub published : Option ℕ → (verdict : ℕ) → List ℕ
+published none verdict = []
+published (some cell) verdict = verdict ∷ []
+
 -- Its length, and the sum of its rounds.
 unfoldable pub lengthOf : Header → ℕ
 lengthOf h =
@@ -54,19 +64,3 @@ roundsOfPlan h =
     let n = h .vertices in
     byMethod (h .method) 0
     ((3 * n + 3 + h .edges * (23 * (n * n) + 6 * n - 1)) ∷ (n * n * n + 24 * (n * n) + 5 * n + 2) ∷ [])
-
--- Where its words repeat: the passes of method 1 and the turns of method 2 are one block over and over. The first place of the first,
--- their length, and the place after the last.
-unfoldable pub blocksFrom : Header → ℕ
-blocksFrom h = byMethod (h .method) 0 ((3 * h .vertices + 3) ∷ (4 * h .vertices + 3) ∷ [])
-
-unfoldable pub blockSize : Header → ℕ
-blockSize h =
-    let n = h .vertices in
-    byMethod (h .method) 0 (h .edges * (8 * n + 4) ∷ (n * n + 11 * n + 2) ∷ [])
-
-unfoldable pub blocksUntil : Header → ℕ
-blocksUntil h =
-    let n = h .vertices in
-    byMethod (h .method) 0
-    ((3 * n + 3 + (n - 1) * (h .edges * (8 * n + 4))) ∷ (4 * n + 3 + n * (n * n + 11 * n + 2)) ∷ [])

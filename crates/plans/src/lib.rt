@@ -4,9 +4,7 @@
 // The mark of an unreached vertex.
 pub const FAR: i64 = 274877906944;
 
-// The greatest method number, and the greatest counts.
-pub const MOST_METHOD: u64 = 2;
-
+// The greatest counts.
 pub const MOST_VERTICES: u64 = 32;
 
 pub const MOST_EDGES: u64 = 128;
@@ -20,4 +18,11 @@ pub struct Header {
     pub vertices: u64,
     pub edges: u64,
     pub source: u64,
+}
+
+// The counters of the loops around a line of a plan, the outermost first.
+pub struct Counters {
+    pub outer: u64,
+    pub middle: u64,
+    pub inner: u64,
 }

@@ -1,5 +1,5 @@
 -- A buffer whose first places are written over, one after the other: the loop that does it, and what each place then holds.
--- Rests on blocks and on the planner's Filled.
+-- Rests on blocks and on answers' Filled.
 use mathlib.Core.Path.{_≡_, sym, ap, _∙_}
 use mathlib.Core.List.{List, [], _∷_, _++_}
 use Prim.Native.Nat.{ℕ, _+_, _-_, _^_, _<_, _≤_}
@@ -8,10 +8,10 @@ use lib.IntN.{ℤ, pos}
 use lib.ListN.{length, set, getD, drop, length-append, length-drop, List·getD-append}
 use lib.Seq.{drop-at, getD-append-add, getD-drop}
 use lib.Signed.{mag}
+use Rattle.answers.proofs.Filled.{Filling, again, done}
 use Rattle.machine.proofs.Tested.{back, kept}
 use Rattle.plans.specs.Blocks.{flat}
 use Rattle.plans.proofs.Blocks.{ones-length, ones-at}
-use Rattle.planner.proofs.Filled.{Filling, again, done}
 use Rattle.requests.specs.Intake.{copied}
 
 module _ (count : ℕ) (f : ℕ → ℤ) where

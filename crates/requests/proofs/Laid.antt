@@ -1,6 +1,6 @@
 -- The starting cells: what each starts with, by the ways out of `start_cell`; how `lay` lays them; and what each cell then holds.
 -- Rests on Sizes, on blocks, and on the laws of signed numbers.
-use mathlib.Core.Path.{_≡_, refl, sym, ap, _∙_}
+use mathlib.Core.Path.{_≡_, refl, ap, _∙_}
 use mathlib.Core.Bool.{Bool, true, false, cond}
 use mathlib.Core.List.{List}
 use Prim.Native.Nat.{ℕ, _+_, _-_, _*_, _^_, _<_, _≤_}

@@ -5,3 +5,5 @@ pub mod Order
 pub mod Copied
 pub mod Laid
 pub mod WithinLimits
+pub mod Enough
+pub mod Numbers

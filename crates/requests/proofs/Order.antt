@@ -5,15 +5,14 @@ use mathlib.Core.Option.{some}
 use Prim.Native.Nat.{ℕ, _-_}
 use native.Mathlib.Omega.{arith}
 use lib.ListN.{length, getD, drop, length-drop}
+use Rattle.answers.specs.declared.Refusal.{Refusal}
+use Rattle.answers.specs.declared.Checked.{Checked}
+use Rattle.answers.specs.declared.Checked.the-variants.{Accepted, Refused}
+use Rattle.answers.specs.Refusal.{Method, found, orElse}
 use Rattle.plans.specs.declared.Header.{Header}
 use Rattle.plans.specs.Plan as Plan
 use Rattle.plans.specs.Plan.{headerOf}
-use Rattle.planner.specs.declared.Refusal.{Refusal}
-use Rattle.planner.specs.declared.Refusal.the-variants.{Method}
-use Rattle.planner.specs.declared.Checked.{Checked}
-use Rattle.planner.specs.declared.Checked.the-variants.{Accepted, Refused}
-use Rattle.planner.specs.Refusal.{found, headerRefusal}
-use Rattle.planner.specs.Written.{orElse}
+use Rattle.planner.specs.Refusal.{headerRefusal}
 use Rattle.planner.proofs.Headers.{accepted}
 use Rattle.requests.specs.Refusal.{sizesRefusal, wordsRefusal, requestRefusal}
 

@@ -7,10 +7,9 @@ use Prim.Native.Nat.{ℕ, _+_, _*_, _<_, _≤_}
 use native.Mathlib.Omega.{arith}
 use lib.Dec.{leb}
 use borrow.Author.Tests.{eq-eqb, ne-eqb, le-leb, lt-leb}
+use Rattle.answers.specs.Refusal.{Words, Cells, Log, Results, need}
 use Rattle.plans.specs.declared.Header.{Header}
-use Rattle.plans.specs.Plan.{cellsOf, lengthOf}
-use Rattle.planner.specs.declared.Refusal.the-variants.{Words, Cells, Log, Results}
-use Rattle.planner.specs.Refusal.{need}
+use Rattle.plans.specs.Plan.{cellsOf, verdictCell, lengthOf}
 use Rattle.requests.specs.Refusal.{wordCountOf, logLengthOf, sizesRefusal}
 
 -- ---- what the header asks for
@@ -33,13 +32,13 @@ module _ (h : Header) where
   cells-two e = rw e
 
   -- size is what `plan_length` gives.
-  pub log-one : (size : ℕ) → size ≡ lengthOf h → h .method ≡ 1 → size + 1 ≡ logLengthOf h
+  pub log-opened : (size cell : ℕ) → size ≡ lengthOf h → some cell ≡ verdictCell h → size + 1 ≡ logLengthOf h
   unfolding logLengthOf
-  log-one size s e = rw (s, e)
+  log-opened size cell s e = rw (s, ← e)
 
-  pub log-two : (size : ℕ) → size ≡ lengthOf h → h .method ≡ 2 → size ≡ logLengthOf h
+  pub log-quiet : (size : ℕ) → size ≡ lengthOf h → none ≡ verdictCell h → size ≡ logLengthOf h
   unfolding logLengthOf
-  log-two size s e = rw (s, e) (omega arith)
+  log-quiet size s e = rw (s, ← e) (omega arith)
 
 -- ---- 5 to 8
 

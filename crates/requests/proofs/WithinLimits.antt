@@ -1,12 +1,12 @@
 -- A request meets no refusal exactly where it is within the limits; what the code's definitions make of these; and how large its fields are.
--- Rests on Sizes, Order and the planner's Headers.
+-- Rests on Sizes, Order, answers' Unmet and the planner's Headers.
 use mathlib.Core.Path.{_≡_, refl, sym, ap, _∙_}
 use mathlib.Core.Logic.{_↔_, _⊎_, inl, inr, ⊎-elim}
-use mathlib.Core.Bool.{Bool, true, false, _&&_}
+use mathlib.Core.Bool.{true, _&&_}
 use mathlib.Core.List.{List, [], _∷_}
-use mathlib.Core.Option.{Option, none, some}
+use mathlib.Core.Option.{none, Option·some-ne-none}
 use Prim.Native.Nat.{ℕ, zero, suc, _+_, _-_, _*_, _<_, _≤_}
-use native.Mathlib.Nat.{add-zero, le-of-suc-le-suc, not-suc-le-zero}
+use native.Mathlib.Nat.{add-zero, eq-zero-or-pos, le-of-suc-le-suc, not-suc-le-zero}
 use native.Mathlib.Omega.{arith}
 use lib.Dec.{T, ltb, leb, eqb, ltb→lt, leb→le, eqb→eq, lt→ltb, le→leb}
 use lib.IntN.{ℤ, pos, negsuc, natAbs, pos-ne-negsuc}
@@ -14,33 +14,29 @@ use lib.ListN.{length, getD}
 use lib.Signed.{leZ, _≤ℤ_, leZ-yes}
 use mir.Facts.{and-yes, yes-and}
 use borrow.Author.Tests.{eq-eqb}
+use Rattle.answers.specs.Refusal.{Method, Words, Cells, Log, Results, Edge, Weight, need, orElse}
+use Rattle.answers.proofs.Unmet.{need-none, orElse-none}
 use Rattle.plans.specs.declared.Header.{Header}
-use Rattle.plans.specs.Limits.{byMethod}
-use Rattle.plans.specs.Plan.{Accepted, cellsOf, lengthOf}
-use Rattle.plans.proofs.Headers.{by-method}
-use Rattle.planner.specs.declared.Refusal.{Refusal}
-use Rattle.planner.specs.declared.Refusal.the-variants.{Method, Words, Cells, Log, Results, Edge, Weight}
-use Rattle.planner.specs.Refusal.{need, headerRefusal}
-use Rattle.planner.specs.Written.{orElse}
+use Rattle.plans.specs.Limits.{byMethod, knownMethod}
+use Rattle.plans.specs.Plan.{Accepted, cellsOf, lengthOf, verdictCell}
+use Rattle.plans.proofs.Headers.{method-is, is-known, by-method}
+use Rattle.planner.specs.Refusal.{headerRefusal}
 use Rattle.planner.proofs.Headers.{accepted, none-met}
 use Rattle.requests.specs.Word.{fromField, toField, spareOfEdge, spareOfEntry, weightOf}
 use Rattle.requests.specs.Refusal.{wordCountOf, logLengthOf, sizesRefusal, shapeGood, weightGood, wordRefusal, wordsRefusal, requestRefusal}
-use Rattle.requests.specs.WithinLimits.{headerIn, wordsIn, EdgeWithin, EntryWithin, WordWithin, Limits, WithinLimits}
+use Rattle.requests.specs.WithinLimits.{headerIn, wordsIn, EdgeWithin, EntryWithin, WordWithin, WithinLimits}
 use Rattle.requests.proofs.Sizes.{words-one, words-two, sizes-met}
 use Rattle.requests.proofs.Order.{no-word, in-order}
 
--- ---- no refusal
+-- ---- the methods, in numbers
 
-some-none : (r : Refusal) → some r ≡ none → ⊥
-some-none r e = let z : _≡_ {A = ℕ} 0 1 = cc in omega arith
+in-numbers : (method : ℕ) → T (knownMethod method) → (1 ≤ method) × (method ≤ 2)
+in-numbers method k = ⊎-elim (λ (e : method ≡ 1). omega arith) (λ (e : method ≡ 2). omega arith) (method-is method k)
 
-need-none : (b : Bool) (r : Refusal) (later : Option Refusal) → (need b r later ≡ none) ↔ (T b × (later ≡ none))
-need-none true r later = (λ e. (tt, e), λ p. p .1)
-need-none false r later = (λ e. absurd (some-none r e), λ p. absurd (p .0))
-
-orElse-none : (a b : Option Refusal) → (orElse a b ≡ none) ↔ ((a ≡ none) × (b ≡ none))
-orElse-none none b = (λ e. (refl, e), λ p. p .1)
-orElse-none (some r) b = (λ e. absurd (some-none r e), λ p. absurd (some-none r (p .0)))
+from-numbers : (method : ℕ) → 1 ≤ method → method ≤ 2 → knownMethod method ≡ true
+from-numbers method l u =
+    is-known method
+    (⊎-elim (λ (e : method - 1 ≡ 0). inl (omega arith)) (λ (g : 0 < method - 1). inr (omega arith)) (eq-zero-or-pos (method - 1)))
 
 -- ---- one word
 
@@ -137,7 +133,7 @@ log-figure : (h : Header) → Accepted h
     ∷ (h .vertices * h .vertices * h .vertices + 11 * (h .vertices * h .vertices) + 6 * h .vertices + 3)
     ∷ [])
     ≡ logLengthOf h
-unfolding logLengthOf lengthOf
+unfolding logLengthOf verdictCell lengthOf
 log-figure =
     by-method
     (λ h. byMethod (h .method) 0
@@ -171,7 +167,7 @@ sizes-none h words cells log distances parents e =
 -- The request.
 module _ (request : List ℕ) (cells log distances parents : ℕ) where
   -- Where it has a header word.
-  all-none : (length request ≡ 0 → ⊥)
+  pub all-none : (length request ≡ 0 → ⊥)
       → (requestRefusal request cells log distances parents ≡ none)
       ↔ ((headerRefusal (headerIn request) ≡ none)
       × (sizesRefusal (headerIn request) (length (wordsIn request)) cells log distances parents ≡ none)
@@ -189,16 +185,17 @@ module _ (request : List ℕ) (cells log distances parents : ℕ) where
   keeps : requestRefusal request cells log distances parents ≡ none → WithinLimits request cells log distances parents
   unfolding wordCountOf cellsOf
   keeps e =
-      let some-word : length request ≡ 0 → ⊥ = λ z. some-none Method (no-word request cells log distances parents z ∙ e) in
+      let some-word : length request ≡ 0 → ⊥ = λ z. Option·some-ne-none Method (no-word request cells log distances parents z ∙ e) in
       let (header, sizes, words) = all-none some-word .0 e in
       let a = accepted (headerIn request) (sym header) in
+      let method = in-numbers (headerIn request .method) (a .known) in
       let s = sizes-none (headerIn request) _ cells log distances parents sizes in
       record {
         some-word = omega arith;
         limits =
             record {
-              method-some = a .method-some;
-              method-known = a .method-known;
+              method-some = method .0;
+              method-known = method .1;
               vertices-some = a .vertices-some;
               vertices-few = a .vertices-few;
               edges-few = a .edges-few;
@@ -215,12 +212,14 @@ module _ (request : List ℕ) (cells log distances parents : ℕ) where
   -- ---- what a request within the limits has, by the definitions that the code's contracts cite
 
   module _ (w : WithinLimits request cells log distances parents) where
+    known-in : knownMethod (headerIn request .method) ≡ true
+    known-in = from-numbers (headerIn request .method) (w .limits .method-some) (w .limits .method-known)
+
     pub accepted-in : Accepted (headerIn request)
     accepted-in =
         let l = w .limits in
         record {
-          method-some = l .method-some;
-          method-known = l .method-known;
+          known = rw known-in tt;
           vertices-some = l .vertices-some;
           vertices-few = l .vertices-few;
           edges-few = l .edges-few;
@@ -243,7 +242,7 @@ module _ (request : List ℕ) (cells log distances parents : ℕ) where
         let h = headerIn request in
         let l = w .limits in
         let header =
-        none-met h (l .method-some) (l .method-known) (l .vertices-some) (l .vertices-few) (l .edges-few) (l .source-there) in
+        none-met h known-in (l .vertices-some) (l .vertices-few) (l .edges-few) (l .source-there) in
         let sizes =
         sizes-met h _ cells log distances parents counted-in cells-in log-in (l .distances-enough) (l .parents-enough) in
         all-none (omega (arith, w .some-word)) .1

@@ -11,16 +11,14 @@ use lib.IntN.{ℤ, pos, negsuc}
 use lib.ListN.{length, getD, drop, drop-of-length-le}
 use lib.Signed.{ltZ, leZ, mag}
 use borrow.Author.Tests.{lt-ltb, le-ltb, le-leb, lt-leb, ltb-true, ltb-false, not-true, not-false}
+use Rattle.answers.specs.declared.Refusal.{Refusal}
+use Rattle.answers.specs.declared.Checked.{Checked}
+use Rattle.answers.specs.declared.Checked.the-variants.{Accepted, Refused}
+use Rattle.answers.specs.Refusal.{Edge, Weight, need, found, orElse}
+use Rattle.answers.proofs.Filled.{next}
 use Rattle.machine.proofs.Tested.{back, kept}
 use Rattle.plans.specs.declared.Header.{Header}
 use Rattle.plans.specs.Limits.{mostWeight, leastWeight}
-use Rattle.planner.specs.declared.Refusal.{Refusal}
-use Rattle.planner.specs.declared.Refusal.the-variants.{Edge, Weight}
-use Rattle.planner.specs.declared.Checked.{Checked}
-use Rattle.planner.specs.declared.Checked.the-variants.{Accepted, Refused}
-use Rattle.planner.specs.Refusal.{need, found}
-use Rattle.planner.specs.Written.{orElse}
-use Rattle.planner.proofs.Filled.{next}
 use Rattle.requests.specs.Word.{fromField, toField, spareOfEdge, spareOfEntry, weightOf}
 use Rattle.requests.specs.Refusal.{shapeGood, weightGood, wordRefusal, wordsRefusal}
 
@@ -87,17 +85,17 @@ module _ (h : Header) (w : ℕ) (v : ℤ) (small : mag v < 2 ^ 63) (is : v ≡ w
 
 -- s and t are what the functions answer of its shape and of its weight.
 module _ (h : Header) (place w : ℕ) (s : Bool) (shape : s ≡ shapeGood h w) where
-  pub shape-bad : not s ≡ true → some (Edge place) ≡ wordRefusal h place w
+  pub shape-bad : (r : Refusal) → r ≡ Edge place → not s ≡ true → some r ≡ wordRefusal h place w
   unfolding wordRefusal
-  shape-bad e = rw (← shape, not-true s e)
+  shape-bad r is e = rw (← shape, not-true s e, is)
 
   module _ (fine : not s ≡ false) (t : Bool) (weight : t ≡ weightGood h w) where
     by-weight : need t (Weight place) none ≡ wordRefusal h place w
     unfolding wordRefusal
     by-weight = rw (← shape, ← weight, not-false s fine)
 
-    pub weight-bad : not t ≡ true → some (Weight place) ≡ wordRefusal h place w
-    weight-bad e = rw (← by-weight, not-true t e)
+    pub weight-bad : (r : Refusal) → r ≡ Weight place → not t ≡ true → some r ≡ wordRefusal h place w
+    weight-bad r is e = rw (← by-weight, not-true t e, is)
 
     pub word-good : not t ≡ false → none ≡ wordRefusal h place w
     word-good e = rw (← by-weight, not-false t e)

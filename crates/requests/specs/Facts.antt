@@ -6,11 +6,12 @@ use mathlib.Core.Option.{Option, none, some}
 use Prim.Native.Nat.{ℕ}
 use lib.IntN.{pos, negsuc}
 use lib.ListN.{replicate}
+use Rattle.answers.specs.declared.Refusal.{Refusal}
+use Rattle.answers.specs.Told.{Told, refused}
+use Rattle.answers.specs.Facts.{byNumber, atPlace}
 use Rattle.plans.specs.Plan.{headerOf}
-use Rattle.planner.specs.declared.Refusal.{Refusal}
-use Rattle.planner.specs.Refusal.{Told, refused}
-use Rattle.planner.specs.Facts.{byNumber, atPlace}
 use Rattle.requests.specs.Refusal.{wordCountOf, logLengthOf, requestRefusal}
+use Rattle.requests.specs.Sizes.{asking, sizesTold}
 use Rattle.requests.specs.Intake.{startingCells, distanceCell, parentCell}
 
 -- What a check tells; 0 where it lets a request pass.
@@ -77,6 +78,11 @@ pub record Facts : Type 0 where
       × (tried (0x2000010000000000 ∷ 0 ∷ []) 13 22 2 2 ≡ noRefusal)
   -- Method 1's "log is one word longer" than its plan, at the limits; method 2's is not.
   pub logs : (logLengthOf (headerOf 0x100020000800001F) ≡ 1060837) × (logLengthOf (headerOf 0x200020000000001F) ≡ 44227)
+  -- What a caller is told to lend: the most of each method; a second word is not looked at. And no header word, a source that is not below n.
+  pub asked : (sizesTold (0x100020000800001F ∷ []) ≡ asking 488 1060837 32)
+      × (sizesTold (0x200020000000001F ∷ 0 ∷ []) ≡ asking 1190 44227 32)
+      × (sizesTold [] ≡ byNumber 1)
+      × (sizesTold (0x1000200008000020 ∷ []) ≡ byNumber 4)
   -- "Order: 1 to 8 by number, then input words": requests that would meet two neighbours, or all, meet the lower.
   pub order : (tried [] 0 0 0 0 ≡ byNumber 1)
       × (tried (0x3000210008100021 ∷ []) 0 0 0 0 ≡ byNumber 1)

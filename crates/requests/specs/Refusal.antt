@@ -8,13 +8,12 @@ use lib.Dec.{ltb, leb, eqb}
 use lib.IntN.{pos}
 use lib.ListN.{length}
 use lib.Signed.{leZ}
+use Rattle.answers.specs.declared.Refusal.{Refusal}
+use Rattle.answers.specs.Refusal.{Method, Words, Cells, Log, Results, Edge, Weight, need, orElse}
 use Rattle.plans.specs.declared.Header.{Header}
 use Rattle.plans.specs.Limits.{byMethod, mostWeight, leastWeight}
-use Rattle.plans.specs.Plan.{headerOf, cellsOf, lengthOf}
-use Rattle.planner.specs.declared.Refusal.{Refusal}
-use Rattle.planner.specs.declared.Refusal.the-variants.{Method, Words, Cells, Log, Results, Edge, Weight}
-use Rattle.planner.specs.Refusal.{need, headerRefusal}
-use Rattle.planner.specs.Written.{orElse}
+use Rattle.plans.specs.Plan.{headerOf, cellsOf, verdictCell, published, lengthOf}
+use Rattle.planner.specs.Refusal.{headerRefusal}
 use Rattle.requests.specs.Word.{fromField, toField, spareOfEdge, spareOfEntry, weightOf}
 
 -- ---- what the header asks for
@@ -23,9 +22,9 @@ use Rattle.requests.specs.Word.{fromField, toField, spareOfEdge, spareOf
 unfoldable pub wordCountOf : Header → ℕ
 wordCountOf h = byMethod (h .method) 0 (h .edges ∷ (h .vertices * h .vertices) ∷ [])
 
--- How many words the log has: the plan's and, in method 1, the opened verdict.
+-- How many words the log has: the plan's and the published one, where there is one.
 unfoldable pub logLengthOf : Header → ℕ
-logLengthOf h = lengthOf h + byMethod (h .method) 0 (1 ∷ 0 ∷ [])
+logLengthOf h = lengthOf h + length (published (verdictCell h) 0)
 
 -- 5 to 8, from the number of words after the header and the lengths of the lent buffers.
 unfoldable pub sizesRefusal : (h : Header) (words cells log distances parents : ℕ) → Option Refusal

@@ -1,16 +1,30 @@
-// Requests: which refusal one meets, and intake, which lays its words into cells.
-// Rests on planner, plans and fields.
-use planner::Checked;
-use planner::Refusal;
+// Requests: what a header asks for, which refusal a request meets, and intake, which lays its words into cells.
+// Rests on answers, planner, plans and fields.
+use answers::Checked;
+use answers::Refusal;
+use planner::VerdictCell;
 use plans::Header;
 ghost use mathlib.Core.Path.{_≡_};
 ghost use Prim.Native.Nat.{_<_, _≤_};
 ghost use lib.ListN.{length, drop};
+ghost use Rattle.answers.specs.Refusal.{found};
 ghost use Rattle.plans.specs.Plan.{Accepted, cellsOf};
-ghost use Rattle.planner.specs.Refusal.{found};
 ghost use Rattle.requests.specs.Word as Word;
 ghost use Rattle.requests.specs.Refusal.{wordCountOf, logLengthOf, sizesRefusal, shapeGood, weightGood, wordRefusal, wordsRefusal, requestRefusal};
+ghost use Rattle.requests.specs.Sizes.{toldBySizes, sizesTold};
 ghost use Rattle.requests.specs.Intake.{sourceOf, laid, startingCells};
+
+// What a request's caller lends: cells, words of the log, and places of each results buffer.
+pub struct Lengths {
+    pub cells: usize,
+    pub log: usize,
+    pub results: usize,
+}
+
+pub enum Asked {
+    Needs(Lengths),
+    Refused(Refusal),
+}
 
 // ---- sizes that follow from the header
 
@@ -42,10 +56,31 @@ fn log_needed(h: Header) -> usize
     ensures { λ r. ⌜ r ≡ logLengthOf h ⌝ }
 {
     let size = planner::plan_length(h);
-    if h.method == 1 {
-        return size + 1;
+    match planner::verdict_cell(h) {
+        VerdictCell::At(_) => size + 1,
+        VerdictCell::Nothing => size,
     }
-    size
+}
+
+// The lengths that a header, whose first word alone is looked at, asks for.
+pub fn sizes_needed(header: &[u64]) -> Asked
+    ensures { λ r. ⌜ toldBySizes r ≡ sizesTold (now (header .entry)) ⌝ }
+{
+    if header.len() == 0 {
+        return Asked::Refused(answers::METHOD);
+    }
+    let h = planner::read_header(header[0]);
+    if let Checked::Refused(refusal) = planner::check_header(h) {
+        return Asked::Refused(refusal);
+    }
+    let cells = cells_needed(h);
+    let log = log_needed(h);
+    let results = h.vertices as usize;
+    Asked::Needs(Lengths {
+        cells,
+        log,
+        results,
+    })
 }
 
 // ---- refusals
@@ -63,20 +98,20 @@ fn check_sizes(
     ensures { λ r. ⌜ found r ≡ sizesRefusal h words cells log distances parents ⌝ }
 {
     if words != words_needed(h) {
-        return Checked::Refused(Refusal::Words);
+        return Checked::Refused(answers::WORDS);
     }
     if cells < cells_needed(h) {
-        return Checked::Refused(Refusal::Cells);
+        return Checked::Refused(answers::CELLS);
     }
     if log < log_needed(h) {
-        return Checked::Refused(Refusal::Log);
+        return Checked::Refused(answers::LOG);
     }
     let n = h.vertices as usize;
     if distances < n {
-        return Checked::Refused(Refusal::Results);
+        return Checked::Refused(answers::RESULTS);
     }
     if parents < n {
-        return Checked::Refused(Refusal::Results);
+        return Checked::Refused(answers::RESULTS);
     }
     Checked::Accepted
 }
@@ -123,10 +158,10 @@ fn check_word(h: Header, place: usize, word: u64) -> Checked
     ensures { λ r. ⌜ found r ≡ wordRefusal h place word ⌝ }
 {
     if !good_shape(h, word) {
-        return Checked::Refused(Refusal::Edge(place));
+        return Checked::Refused(Refusal::at(answers::EDGE, place));
     }
     if !good_weight(h, word) {
-        return Checked::Refused(Refusal::Weight(place));
+        return Checked::Refused(Refusal::at(answers::WEIGHT, place));
     }
     Checked::Accepted
 }
@@ -151,7 +186,7 @@ pub fn check(request: &[u64], cells: usize, log: usize, distances: usize, parent
     ensures { λ r. ⌜ found r ≡ requestRefusal (now (request .entry)) cells log distances parents ⌝ }
 {
     if request.len() == 0 {
-        return Checked::Refused(Refusal::Method);
+        return Checked::Refused(answers::METHOD);
     }
     let h = planner::read_header(request[0]);
     if let Checked::Refused(refusal) = planner::check_header(h) {

@@ -7,11 +7,11 @@ use native.Mathlib.Omega.{arith}
 use lib.IntN.{ℤ}
 use lib.ListN.{length, drop}
 use borrow.Author.Tests.{le-leb, lt-leb}
+use Rattle.answers.specs.declared.Refusal.{Refusal}
+use Rattle.answers.specs.Refusal.{Log, Operation}
+use Rattle.answers.specs.Buffers.{overwritten}
 use Rattle.machine.specs.Log.{Admitted, cellsAfter, logOf, sumOf, roundsOf}
 use Rattle.machine.proofs.Replayed.{charge-log}
-use Rattle.planner.specs.declared.Refusal.{Refusal}
-use Rattle.planner.specs.declared.Refusal.the-variants.{Log, Operation}
-use Rattle.planner.specs.Written.{overwritten}
 use Rattle.runner.specs.declared.PlanAnswer.the-variants.{Ran, Refused}
 use Rattle.runner.specs.declared.Found.the-variants.{At, Nothing}
 use Rattle.runner.specs.Runner.{firstBad, foundOf, logSize, runnerRefusal, planOutcome, MetPlan}
@@ -31,10 +31,10 @@ module _ (plan : List ℕ) (cells : List ℤ) (log : List ℕ) where
       → MetPlan (planOutcome plan cells log) (Refused r) cells log
   refused r e = rw (refused-plan plan cells log r e) (record { answers = refl; cells-left = refl; log-left = refl })
 
-  pub bad-word : (place : ℕ) → At place ≡ foundOf (firstBad (length cells) 1 (drop 1 plan))
-      → MetPlan (planOutcome plan cells log) (Refused (Operation place)) cells log
+  pub bad-word : (place : ℕ) (r : Refusal) → r ≡ Operation place → At place ≡ foundOf (firstBad (length cells) 1 (drop 1 plan))
+      → MetPlan (planOutcome plan cells log) (Refused r) cells log
   unfolding runnerRefusal
-  bad-word place e = refused (Operation place) (rw (some-of (firstBad (length cells) 1 (drop 1 plan)) place e))
+  bad-word place r is e = refused r (rw (is, some-of (firstBad (length cells) 1 (drop 1 plan)) place e))
 
   module _ (fine : Nothing ≡ foundOf (firstBad (length cells) 1 (drop 1 plan))) (size : ℕ) (is : size ≡ logSize plan) where
     clear : firstBad (length cells) 1 (drop 1 plan) ≡ none

@@ -1,23 +1,26 @@
 -- What is asked of foreign plans: 9 is told at the lowest bad place, a refusal changes nothing, and a run's log is of the plan's words,
 -- gives the run's cells when it is carried out again, and has the charge and the length that are answered; the rest of the buffers stays.
--- Rests on Lowest, Sized and machine's Replayed and Carried.
+-- Rests on Lowest, Sized, answers' Unmet and machine's Replayed and Carried.
 use mathlib.Core.Path.{_≡_, refl, ap, _∙_}
 use mathlib.Core.Bool.{true, false}
 use mathlib.Core.List.{List, [], _∷_}
 use mathlib.Core.Option.{Option, none, some, Option·some-ne-none}
 use Prim.Native.Nat.{ℕ, _<_, _≤_}
 use native.Mathlib.Omega.{arith}
+use lib.Dec.{T, leb}
 use lib.IntN.{ℤ}
 use lib.ListN.{length, getD, drop}
 use lib.Seq.{take-append-seam, drop-at}
+use Rattle.answers.specs.declared.Refusal.{Refusal}
+use Rattle.answers.specs.Refusal.{Log}
+use Rattle.answers.specs.Told.{refused}
+use Rattle.answers.specs.Buffers.{overwritten}
+use Rattle.answers.proofs.Unmet.{need-none, orElse-none}
 use Rattle.machine.specs.Instruction.{All}
 use Rattle.machine.specs.Effect.{cellAt}
 use Rattle.machine.specs.Log.{Admitted, Spares, cellsAfter, logOf, replay, withoutPublished, chargeOf}
 use Rattle.machine.proofs.Carried.{length-after, spared-after}
 use Rattle.machine.proofs.Replayed.{replay-log, words-log}
-use Rattle.planner.specs.declared.Refusal.{Refusal}
-use Rattle.planner.specs.Refusal.{refused}
-use Rattle.planner.specs.Written.{orElse, overwritten}
 use Rattle.runner.specs.Runner.{badAt, firstBad, operationAt, logSize, runnerRefusal, planOutcome, planRounds, planLength, planLog}
 use Rattle.runner.proofs.Sized.{log-size}
 use Rattle.runner.proofs.Lowest.{admitted-from, fine-before, bad-at}
@@ -47,9 +50,17 @@ module _ (plan : List ℕ) (count : ℕ) where
 
 -- ---- a refusal, and a run
 
-none-found : (o : Option ℕ) (later : Option Refusal) → orElse (operationAt o) later ≡ none → o ≡ none
-none-found none later e = refl
-none-found (some k) later e = absurd (Option·some-ne-none _ e)
+no-operation : (o : Option ℕ) → operationAt o ≡ none → o ≡ none
+no-operation none e = refl
+no-operation (some k) e = absurd (Option·some-ne-none _ e)
+
+-- Without a refusal no place is bad, and the log has room.
+pub none-met : (plan : List ℕ) (count room : ℕ) → runnerRefusal plan count room ≡ none
+    → (firstBad count 1 (drop 1 plan) ≡ none) × T (leb (logSize plan) room)
+unfolding runnerRefusal
+none-met plan count room e =
+    let (a, b) = orElse-none (operationAt (firstBad count 1 (drop 1 plan))) _ .0 e in
+    (no-operation (firstBad count 1 (drop 1 plan)) a, need-none (leb (logSize plan) room) Log none .0 b .0)
 
 module _ (plan : List ℕ) (cells : List ℤ) (log : List ℕ) where
   pub refused-plan : (r : Refusal) → runnerRefusal plan (length cells) (length log) ≡ some r
@@ -71,8 +82,7 @@ module _ (plan : List ℕ) (cells : List ℤ) (log : List ℕ) where
     written = rw outcome (take-append-seam (logOf plan cells) _)
 
     able : Admitted (length cells) (drop 1 plan)
-    unfolding runnerRefusal
-    able = admitted plan (length cells) (none-found (firstBad (length cells) 1 (drop 1 plan)) _ e)
+    able = admitted plan (length cells) (none-met plan (length cells) (length log) e .0)
 
     pub replayed-plan : replay (planLog plan cells log) cells ≡ some (planOutcome plan cells log .cells)
     replayed-plan = rw (written, outcome) (replay-log plan cells able)

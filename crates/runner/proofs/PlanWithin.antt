@@ -4,7 +4,7 @@ use mathlib.Core.Path.{_≡_, refl}
 use mathlib.Core.Logic.{_↔_, _≢_}
 use mathlib.Core.Bool.{Bool, true, false, not, _||_, true≢false}
 use mathlib.Core.List.{List, [], _∷_}
-use mathlib.Core.Option.{Option, none, some, Option·some-ne-none}
+use mathlib.Core.Option.{none}
 use Prim.Native.Nat.{ℕ, suc, _+_, _<_, _≤_}
 use native.Mathlib.Nat.{add-zero}
 use native.Mathlib.Decide.{ℕ-discrete}
@@ -16,13 +16,9 @@ use lib.Seq.{getD-drop}
 use mir.Facts.{yes-and}
 use Rattle.machine.specs.Word.{opField, dField, aField, bField, admissibleAt, admissible}
 use Rattle.machine.proofs.Admitted.{is-set, is-open, is-rest, op-below, spare, set-d, open-a, open-zeros, rest-in}
-use Rattle.planner.specs.declared.Refusal.{Refusal}
-use Rattle.planner.specs.declared.Refusal.the-variants.{Log}
-use Rattle.planner.specs.Refusal.{need}
-use Rattle.planner.specs.Written.{orElse}
-use Rattle.runner.specs.Runner.{badAt, firstBad, operationAt, logSize, runnerRefusal}
+use Rattle.runner.specs.Runner.{badAt, firstBad, logSize, runnerRefusal}
 use Rattle.runner.specs.PlanWithin.{WordAllowed, PlanWithin}
-use Rattle.runner.proofs.Foreign.{none-bad}
+use Rattle.runner.proofs.Foreign.{none-bad, none-met}
 
 -- ---- one word
 
@@ -101,21 +97,12 @@ none-from count place (w ∷ ws) f =
 
 module _ (plan : List ℕ) (count room : ℕ) where
   keeps : runnerRefusal plan count room ≡ none → PlanWithin plan count room
-  unfolding runnerRefusal
   keeps e =
-      let (a, b) = both-none (firstBad count 1 (drop 1 plan)) _ e in
+      let (fine, enough) = none-met plan count room e in
       record {
-        words-allowed = λ place l h. word-fine count place (getD plan place 0) .0 (none-bad plan count a place l h);
-        log-enough = leb→le (logSize plan) room (need-yes (leb (logSize plan) room) b);
+        words-allowed = λ place l h. word-fine count place (getD plan place 0) .0 (none-bad plan count fine place l h);
+        log-enough = leb→le (logSize plan) room enough;
       }
-    where
-      need-yes : (b : Bool) → need b Log none ≡ none → T b
-      need-yes true q = tt
-      need-yes false q = absurd (Option·some-ne-none _ q)
-
-      both-none : (o : Option ℕ) (later : Option Refusal) → orElse (operationAt o) later ≡ none → (o ≡ none) × (later ≡ none)
-      both-none none later q = (refl, q)
-      both-none (some k) later q = absurd (Option·some-ne-none _ q)
 
   meets-none : PlanWithin plan count room → runnerRefusal plan count room ≡ none
   unfolding runnerRefusal

@@ -1,4 +1,4 @@
--- The length of a plan's log: the laws of the loop that counts it, and that it is `logSize`. Rests on planner's Filled.
+-- The length of a plan's log: the laws of the loop that counts it, and that it is `logSize`. Rests on answers' Filled.
 use mathlib.Core.Path.{_≡_, refl, ap}
 use mathlib.Core.Bool.{Bool, true, false, cond}
 use mathlib.Core.List.{List, [], _∷_}
@@ -8,10 +8,10 @@ use lib.IntN.{ℤ}
 use lib.ListN.{length, getD, drop, length-append, drop-of-length-le}
 use borrow.Author.Tests.{eq-eqb, ne-eqb}
 use Rattle.fields.specs.Fields.{bitsOf}
+use Rattle.answers.proofs.Filled.{next}
 use Rattle.machine.specs.Effect.{cellAt}
 use Rattle.machine.specs.Word.{opField, aField}
 use Rattle.machine.specs.Log.{carried, opens, logged, logFrom, logOf, sumOf}
-use Rattle.planner.proofs.Filled.{next}
 use Rattle.runner.specs.Runner.{logSize}
 
 -- ---- a sum over the words from place k on

@@ -1,39 +1,79 @@
 -- The loop that carries a plan's words out and logs them, wherever the words come from: its invariant and its laws.
--- Rests on planner's Filled, machine's Carried and Sized.
+-- Rests on answers' Filled, fields' Sets, machine's Carried and Sized.
 use mathlib.Core.Path.{_≡_, refl, sym, ap, _∙_}
 use mathlib.Core.List.{List, [], _∷_, _++_}
-use Prim.Native.Nat.{ℕ, suc, _+_, _*_, _<_, _≤_}
-use native.Mathlib.Nat.{add-zero, zero-add, add-suc, suc-add}
+use Prim.Native.Nat.{ℕ, _+_, _*_, _<_, _≤_}
+use native.Mathlib.Nat.{zero-add}
 use native.Mathlib.Omega.{arith}
 use lib.Dec.{T}
 use lib.IntN.{ℤ}
 use lib.ListN.{length, getD, set, drop, length-set, length-append, drop-of-length-le}
 use lib.Seq.{sets, length-sets}
+use Rattle.fields.proofs.Sets.{sets-append}
+use Rattle.answers.specs.Buffers.{overwritten}
+use Rattle.answers.proofs.Filled.{next, from-start}
 use Rattle.machine.specs.Word.{admissible}
 use Rattle.machine.specs.Log.{carried, logged, Admitted, cellsAfter, logFrom, logOf, sumOf, roundsOf}
 use Rattle.machine.proofs.Carried.{length-carried}
-use Rattle.planner.proofs.Filled.{next, from-start}
-use Rattle.planner.specs.Written.{overwritten}
 use Rattle.runner.proofs.Sized.{sum-next, sum-end}
 
-sets-append : (log : List ℕ) (at : ℕ) (xs ys : List ℕ) → sets log at (xs ++ ys) ≡ sets (sets log at xs) (at + length xs) ys
-sets-append log at [] ys = ap (λ (i : ℕ). sets log i ys) (sym (add-zero at))
-sets-append log at (x ∷ xs) ys =
-    sets-append (set log at x) (suc at) xs ys
-    ∙ ap (λ (i : ℕ). sets (sets (set log at x) (suc at) xs) i ys) (suc-add at (length xs) ∙ sym (add-suc at (length xs)))
+-- ---- words carried out
 
--- Before the word at place k: what is left of the plan makes of the cells, the log, its place and the rounds what all of it makes of those
--- at the start, where the log has the header already.
-pub record Turn (plan : List ℕ) (cells₀ : List ℤ) (log₀ : List ℕ) (cells : List ℤ) (log : List ℕ) (at rounds k : ℕ) : Type 0 where
-  pub admits : Admitted (length cells₀) (drop k plan)
+-- Before the word at place k: what is left of the words makes of the cells and the rounds what all of them but the first make of those at the
+-- start.
+pub record Carrying (words : List ℕ) (cells₀ cells : List ℤ) (rounds k : ℕ) : Type 0 where
+  pub admits : Admitted (length cells₀) (drop k words)
   pub count : length cells ≡ length cells₀
+  pub leaves : cellsAfter (drop k words) cells ≡ cellsAfter (drop 1 words) cells₀
+  pub charges : rounds + sumOf roundsOf (drop k words) ≡ sumOf roundsOf (drop 1 words)
+  pub few : rounds ≤ 6 * k
+
+pub begin : (words : List ℕ) (cells : List ℤ) → Admitted (length cells) (drop 1 words) → Carrying words cells cells 0 1
+begin words cells a = record { admits = a; count = refl; leaves = refl; charges = zero-add _; few = omega arith }
+
+module _ {words : List ℕ} {cells₀ cells : List ℤ} {rounds k : ℕ} (c : Carrying words cells₀ cells rounds k) (h : k < length words)
+    (w : ℕ) (is : w ≡ getD words k 0) where
+  off : drop k words ≡ w ∷ drop (k + 1) words
+  off = rw is (next words k 0 h)
+
+  both : T (admissible (length cells₀) w) × Admitted (length cells₀) (drop (k + 1) words)
+  both = rw off at (c .admits)
+
+  pub can : T (admissible (length cells) w)
+  can = rw (c .count) (both .0)
+
+  pub further : (cells′ : List ℤ) (cost : ℕ) → cells′ ≡ carried w cells → (cost ≡ roundsOf w) × (cost ≤ 6)
+      → Carrying words cells₀ cells′ (rounds + cost) (k + 1)
+  unfolding cellsAfter
+  further cells′ cost e r =
+      let n = sum-next roundsOf words k h in
+      let u : roundsOf (getD words k 0) ≡ cost = sym (r .0 ∙ ap roundsOf is) in
+      record {
+        admits = both .1;
+        count = ap length e ∙ length-carried w cells ∙ c .count;
+        leaves = rw e (sym (ap (λ (ws : List ℕ). cellsAfter ws cells) off) ∙ c .leaves);
+        charges = omega arith;
+        few = omega arith;
+      }
+
+pub finished : {words : List ℕ} {cells₀ cells : List ℤ} {rounds k : ℕ} → Carrying words cells₀ cells rounds k → length words ≤ k
+    → (rounds ≡ sumOf roundsOf (drop 1 words)) × (cells ≡ cellsAfter (drop 1 words) cells₀)
+unfolding cellsAfter
+finished {words} {cells₀} {cells} {rounds} {k} c e = (
+  omega (arith, sum-end roundsOf words k e, c .charges),
+  sym (ap (λ (ws : List ℕ). cellsAfter ws cells) (drop-of-length-le words e)) ∙ c .leaves,
+)
+
+-- ---- and logged
+
+-- Before the word at place k: what is left of the plan makes of the log and its place what all of it makes of those at the start, where the
+-- log has the header already.
+pub record Turn (plan : List ℕ) (cells₀ : List ℤ) (log₀ : List ℕ) (cells : List ℤ) (log : List ℕ) (at rounds k : ℕ) : Type 0 where
+  pub carrying : Carrying plan cells₀ cells rounds k
   pub long : length log ≡ length log₀
   pub room : at + length (logFrom (drop k plan) cells) ≤ length log
-  pub leaves : cellsAfter (drop k plan) cells ≡ cellsAfter (drop 1 plan) cells₀
   pub writes : sets log at (logFrom (drop k plan) cells) ≡ sets log₀ 1 (logFrom (drop 1 plan) cells₀)
   pub ends : at + length (logFrom (drop k plan) cells) ≡ 1 + length (logFrom (drop 1 plan) cells₀)
-  pub charges : rounds + sumOf roundsOf (drop k plan) ≡ sumOf roundsOf (drop 1 plan)
-  pub few : rounds ≤ 6 * k
 
 -- ---- the header
 
@@ -53,37 +93,24 @@ pub start : (plan : List ℕ) (cells : List ℤ) (log : List ℕ) (w : ℕ) → 
     → Turn plan cells (set log 0 w) cells (set log 0 w) 1 0 1
 start plan cells log w h is a r =
     record {
-      admits = a;
-      count = refl;
+      carrying = begin plan cells a;
       long = refl;
       room = omega (arith, ap length (plan-log plan cells w h is), length-set log 0 w);
-      leaves = refl;
       writes = refl;
       ends = refl;
-      charges = zero-add _;
-      few = omega arith;
     }
 
 -- ---- a word
 
 module _ {plan : List ℕ} {cells₀ : List ℤ} {log₀ : List ℕ} {cells : List ℤ} {log : List ℕ} {at rounds k : ℕ}
     (t : Turn plan cells₀ log₀ cells log at rounds k) (h : k < length plan) (w : ℕ) (is : w ≡ getD plan k 0) where
-  off : drop k plan ≡ w ∷ drop (k + 1) plan
-  off = rw is (next plan k 0 h)
-
   split : logFrom (drop k plan) cells ≡ logged w cells ++ logFrom (drop (k + 1) plan) (carried w cells)
   unfolding logFrom
-  split = ap (λ (ws : List ℕ). logFrom ws cells) off
+  split = ap (λ (ws : List ℕ). logFrom ws cells) (off (t .carrying) h w is)
 
   whole : length (logFrom (drop k plan) cells)
       ≡ length (logged w cells) + length (logFrom (drop (k + 1) plan) (carried w cells))
   whole = ap length split ∙ length-append (logged w cells) _
-
-  both : T (admissible (length cells₀) w) × Admitted (length cells₀) (drop (k + 1) plan)
-  both = rw off at (t .admits)
-
-  pub can : T (admissible (length cells) w)
-  can = rw (t .count) (both .0)
 
   pub fits : at + length (logged w cells) ≤ length log
   fits = omega (arith, whole)
@@ -92,23 +119,16 @@ module _ {plan : List ℕ} {cells₀ : List ℤ} {log₀ : List ℕ} {cells : Li
       → (at′ ≡ at + length (logged w cells)) × (log′ ≡ sets log at (logged w cells))
       → (cost ≡ roundsOf w) × (cost ≤ 6)
       → Turn plan cells₀ log₀ cells′ log′ at′ (rounds + cost) (k + 1)
-  unfolding cellsAfter
   again cells′ log′ at′ cost c l r =
       let s : length log′ ≡ length log = ap length (l .1) ∙ length-sets log at (logged w cells) in
-      let n = sum-next roundsOf plan k h in
-      let u : roundsOf (getD plan k 0) ≡ cost = sym (r .0 ∙ ap roundsOf is) in
       record {
-        admits = both .1;
-        count = ap length c ∙ length-carried w cells ∙ t .count;
+        carrying = further (t .carrying) h w is cells′ cost c r;
         long = s ∙ t .long;
         room = rw c (omega (arith, whole));
-        leaves = rw c (sym (ap (λ (ws : List ℕ). cellsAfter ws cells) off) ∙ t .leaves);
         writes =
             rw (c, l .1, l .0)
             (sym (sets-append log at (logged w cells) _) ∙ ap (sets log at) (sym split) ∙ t .writes);
         ends = rw c (omega (arith, whole));
-        charges = omega arith;
-        few = omega arith;
       }
 
 -- ---- after the last word
@@ -123,20 +143,21 @@ pub record CarriedOut (plan : List ℕ) (cells₀ : List ℤ) (log₀ : List ℕ
 pub done : {plan : List ℕ} {cells₀ : List ℤ} {log₀ : List ℕ} {cells : List ℤ} {log : List ℕ} {at rounds k : ℕ} (w : ℕ)
     → Turn plan cells₀ (set log₀ 0 w) cells log at rounds k → 0 < length plan → w ≡ getD plan 0 0 → length plan ≤ k
     → CarriedOut plan cells₀ log₀ cells log at rounds
-unfolding cellsAfter logFrom
+unfolding logFrom
 done {plan} {cells₀} {log₀} {cells} {log} {at} {rounds} {k} w t h is e =
     let n = drop-of-length-le plan e in
     let l = plan-log plan cells₀ w h is in
+    let f = finished (t .carrying) e in
     let z : length (logFrom (drop k plan) cells) ≡ 0 = ap (λ (ws : List ℕ). length (logFrom ws cells)) n in
     record {
-      leaves = sym (ap (λ (ws : List ℕ). cellsAfter ws cells) n) ∙ t .leaves;
+      leaves = f .1;
       writes =
           sym (ap (λ (ws : List ℕ). sets log at (logFrom ws cells)) n)
           ∙ t .writes
           ∙ ap (sets log₀ 0) (sym l)
           ∙ from-start (logOf plan cells₀) log₀ (omega (arith, ap length l, length-set log₀ 0 w));
       ends = omega (arith, ap length l);
-      charges = omega (arith, sum-end roundsOf plan k e);
+      charges = f .0;
     }
 
 -- A plan without a header.

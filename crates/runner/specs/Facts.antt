@@ -6,9 +6,9 @@ use mathlib.Core.List.{List, [], _∷_}
 use mathlib.Core.Option.{none}
 use Prim.Native.Nat.{ℕ}
 use lib.IntN.{pos, negsuc}
-use Rattle.planner.specs.Refusal.{Told}
-use Rattle.planner.specs.Facts.{byNumber, atPlace}
-use Rattle.runner.specs.Runner.{badAt, PlanOutcome, planOutcome}
+use Rattle.answers.specs.Told.{Told}
+use Rattle.answers.specs.Facts.{byNumber, atPlace}
+use Rattle.runner.specs.Runner.{badAt, planOutcome}
 
 -- A run told by its rounds and log length.
 abbrev pub ranPlan : (rounds size : ℕ) → Told

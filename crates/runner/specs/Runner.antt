@@ -8,12 +8,12 @@ use Prim.Native.Nat.{ℕ, suc, _+_}
 use lib.Dec.{leb}
 use lib.IntN.{ℤ}
 use lib.ListN.{length, getD, take, drop}
+use Rattle.answers.specs.declared.Refusal.{Refusal}
+use Rattle.answers.specs.Refusal.{Log, Operation, need, orElse}
+use Rattle.answers.specs.Told.{Told, refused}
+use Rattle.answers.specs.Buffers.{overwritten}
 use Rattle.machine.specs.Word.{admissible}
 use Rattle.machine.specs.Log.{opens, cellsAfter, logOf, sumOf, chargeOf}
-use Rattle.planner.specs.declared.Refusal.{Refusal}
-use Rattle.planner.specs.declared.Refusal.the-variants.{Log, Operation}
-use Rattle.planner.specs.Refusal.{Told, refused, need}
-use Rattle.planner.specs.Written.{orElse, overwritten}
 use Rattle.runner.specs.declared.PlanAnswer.{PlanAnswer}
 use Rattle.runner.specs.declared.PlanAnswer.the-variants.{Ran, Refused}
 use Rattle.runner.specs.declared.Found.{Found}

@@ -1,11 +1,11 @@
 // The runner: a plan from outside, carried out on lent cells and logged.
-// Rests on planner (refusals) and machine.
-use planner::Refusal;
+// Rests on answers, fields and machine.
+use answers::Refusal;
 ghost use mathlib.Core.Path.{_≡_};
 ghost use Prim.Native.Nat.{_≤_};
 ghost use lib.ListN.{length, drop};
+ghost use Rattle.answers.specs.Buffers.{overwritten};
 ghost use Rattle.machine.specs.Log.{Admitted, cellsAfter, logOf, sumOf, roundsOf};
-ghost use Rattle.planner.specs.Written.{overwritten};
 ghost use Rattle.runner.specs.Runner.{badAt, firstBad, foundOf, logSize, planOutcome, MetPlan};
 
 // What a run answers: its rounds, and the words of its log.
@@ -66,6 +66,23 @@ fn log_length(plan: &[u64]) -> usize
     size
 }
 
+// Words that the cells admit, but for the first one, a header, carried out in order, each once; their rounds.
+pub fn carry_words(words: &[u64], cells: &mut [i64]) -> u64
+    requires { ⌜ Admitted (length (now cells)) (drop 1 (now words)) ⌝ }
+    ensures { λ r. ⌜ (r ≡ sumOf roundsOf (drop 1 (now (words .entry)))) × (now (cells .exit) ≡ cellsAfter (drop 1 (now (words .entry))) (now (cells .entry))) ⌝ }
+{
+    let table = machine::ROUNDS;
+    let mut charge: u64 = 0;
+    let mut at: usize = 1;
+    while at < words.len() {
+        let next = words[at];
+        machine::step(cells, next);
+        charge += machine::cost(next, &table);
+        at += 1;
+    }
+    charge
+}
+
 // The plan's operation words carried out in order, each once, and logged; the rounds.
 fn carry_plan(plan: &[u64], cells: &mut [i64], log: &mut [u64]) -> u64
     requires { ⌜ Admitted (length (now cells)) (drop 1 (now plan)) × (length (logOf (now plan) (now cells)) ≤ length (now log)) ⌝ }
@@ -76,13 +93,14 @@ fn carry_plan(plan: &[u64], cells: &mut [i64], log: &mut [u64]) -> u64
         return rounds;
     }
     log[0] = plan[0];
+    let table = machine::ROUNDS;
     let mut at: usize = 1;
     let mut k: usize = 1;
     while k < plan.len() {
         let word = plan[k];
         at = machine::append(cells, log, at, word);
         machine::step(cells, word);
-        rounds += machine::cost(word);
+        rounds += machine::cost(word, &table);
         k += 1;
     }
     rounds
@@ -93,11 +111,11 @@ pub fn run_plan(plan: &[u64], cells: &mut [i64], log: &mut [u64]) -> PlanAnswer
     ensures { λ r. ⌜ MetPlan (planOutcome (now (plan .entry)) (now (cells .entry)) (now (log .entry))) r (now (cells .exit)) (now (log .exit)) ⌝ }
 {
     if let Found::At(place) = first_bad(plan, cells.len()) {
-        return PlanAnswer::Refused(Refusal::Operation(place));
+        return PlanAnswer::Refused(Refusal::at(answers::OPERATION, place));
     }
     let size = log_length(plan);
     if log.len() < size {
-        return PlanAnswer::Refused(Refusal::Log);
+        return PlanAnswer::Refused(answers::LOG);
     }
     let rounds = carry_plan(plan, cells, log);
     PlanAnswer::Ran(Tally {

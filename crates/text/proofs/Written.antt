@@ -1,19 +1,14 @@
 -- Laws of texts written to a buffer: one after the other, and part by part in a loop.
--- Rests on the definitions alone.
+-- Rests on fields' Sets.
 use mathlib.Core.Path.{_≡_, refl, sym, ap, subst, _∙_}
 use mathlib.Core.List.{List, [], _∷_, _++_, append-assoc, append-nil}
-use Prim.Native.Nat.{ℕ, suc, _+_, _≤_}
-use native.Mathlib.Nat.{add-zero, add-suc, suc-add}
+use Prim.Native.Nat.{ℕ, _+_, _≤_}
+use native.Mathlib.Nat.{add-zero}
 use native.Mathlib.Omega.{arith}
-use lib.ListN.{length, set, length-set, length-append}
+use lib.ListN.{set, length-set, length-append}
 use lib.Seq.{sets}
+use Rattle.fields.proofs.Sets.{sets-append}
 use Rattle.text.specs.Text.{Put}
-
-sets-append : (b : List ℕ) (at : ℕ) (xs ys : List ℕ) → sets b at (xs ++ ys) ≡ sets (sets b at xs) (at + length xs) ys
-sets-append b at [] ys = ap (λ (i : ℕ). sets b i ys) (sym (add-zero at))
-sets-append b at (x ∷ xs) ys =
-    sets-append (set b at x) (suc at) xs ys
-    ∙ ap (λ (i : ℕ). sets (sets (set b at x) (suc at) xs) i ys) (suc-add at (length xs) ∙ sym (add-suc at (length xs)))
 
 -- Nothing.
 pub nothing : (b : List ℕ) (at : ℕ) → Put 0 [] b b at at

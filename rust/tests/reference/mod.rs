@@ -194,3 +194,13 @@ pub fn write_plan(header: &[u64], buffer: &mut [u64]) -> Outcome {
     buffer[..plan.len()].copy_from_slice(&plan);
     ran(0, [plan.len() as u64, 0, 0])
 }
+
+/// The lengths that the first word given asks for: cells, log, results.
+pub fn sizes(header: &[u64]) -> Outcome {
+    if let Some(number) = header_fault(header) {
+        return refused(number, None);
+    }
+    let public = Public::read(header[0]);
+    let log = log_length(&plan_words(header[0]));
+    ran(0, [public.cells() as u64, log as u64, public.n])
+}

@@ -52,56 +52,48 @@ pub fn pack(op: u64, d: u64, a: u64, b: u64) -> u64 {
     op << 60 | d << 40 | a << 20 | b
 }
 
-/// Takes the operations of a plan: to write them down or to carry them out.
-pub trait Sink {
-    fn step(&mut self, op: u64, d: u64, a: u64, b: u64);
-}
-
-impl Sink for Vec<u64> {
-    #[inline(always)]
-    fn step(&mut self, op: u64, d: u64, a: u64, b: u64) {
-        self.push(pack(op, d, a, b));
-    }
-}
-
-/// Gives each operation of a plan to the sink, in order.
-pub fn emit(public: &Public, sink: &mut impl Sink) {
-    let writer = Writer { sink };
+/// Adds each operation of a plan to the words, in order.
+pub fn emit(public: &Public, words: &mut Vec<u64>) {
+    let writer = Writer { words };
     match public.method {
         1 => writer.edges(public),
         _ => writer.table(public),
     }
 }
 
-struct Writer<'a, S> {
-    sink: &'a mut S,
+struct Writer<'a> {
+    words: &'a mut Vec<u64>,
 }
 
-impl<S: Sink> Writer<'_, S> {
+impl Writer<'_> {
+    #[inline(always)]
+    fn step(&mut self, op: u64, d: u64, a: u64, b: u64) {
+        self.words.push(pack(op, d, a, b));
+    }
     fn set(&mut self, d: u64, value: i64) {
         let bits = value as u64;
-        self.sink.step(0, d, bits >> 20 & FIELD, bits & FIELD);
+        self.step(0, d, bits >> 20 & FIELD, bits & FIELD);
     }
     fn copy(&mut self, d: u64, a: u64) {
-        self.sink.step(1, d, a, 0);
+        self.step(1, d, a, 0);
     }
     fn add(&mut self, d: u64, a: u64, b: u64) {
-        self.sink.step(2, d, a, b);
+        self.step(2, d, a, b);
     }
     fn less(&mut self, d: u64, a: u64, b: u64) {
-        self.sink.step(3, d, a, b);
+        self.step(3, d, a, b);
     }
     fn equal(&mut self, d: u64, a: u64, b: u64) {
-        self.sink.step(4, d, a, b);
+        self.step(4, d, a, b);
     }
     fn both(&mut self, d: u64, a: u64, b: u64) {
-        self.sink.step(5, d, a, b);
+        self.step(5, d, a, b);
     }
     fn move_if(&mut self, d: u64, a: u64, b: u64) {
-        self.sink.step(6, d, a, b);
+        self.step(6, d, a, b);
     }
     fn open(&mut self, a: u64) {
-        self.sink.step(7, 0, a, 0);
+        self.step(7, 0, a, 0);
     }
 
     fn edges(mut self, public: &Public) {
@@ -284,14 +276,5 @@ impl<'a> Machine<'a> {
             self.note(word);
             self.act(op, d, a, b);
         }
-    }
-}
-
-impl Sink for Machine<'_> {
-    // Inlined, each place in the plan carries out only the operation it emits.
-    #[inline(always)]
-    fn step(&mut self, op: u64, d: u64, a: u64, b: u64) {
-        self.note(pack(op, d, a, b));
-        self.act(op, d, a, b);
     }
 }

@@ -5,15 +5,20 @@ use native.Mathlib.Omega.{arith}
 use lib.IntN.{ℤ, pos}
 use Rattle.console.specs.Desk.{deskText}
 use Rattle.text.proofs.Arrays.{counted}
-use Rattle.lines.proofs.Answered.{few-vertices, answer-text}
+use Rattle.lines.proofs.Answered.{distinct, few-vertices, answer-text}
 use Rattle.console.proofs.Whole.{printed}
 use Rattle.console.proofs.desk_text.Statement.{statement}
 use Rattle.console.proofs.desk_text.Tie as tie
 
 put-answer-requires : tie.Need-put-answer-requires
 put-answer-requires c κs =
-    let r = c .before .before .before .before .before .before .before .before .run-bytes .ensures in
-    (search needs, search needs, search needs, λ z. omega (arith, few-vertices _ _ _ _ _ _ _ (r .1) _ (r .0) z))
+    let r = c .before .before .before .before .before .before .before .before .run-bytes .ensures in (
+      search needs,
+      search needs,
+      search needs,
+      λ z. omega (arith, few-vertices _ _ _ _ _ _ _ (r .1) _ (r .0) z),
+      distinct _ _ _ _ _ _ _ (r .1),
+    )
 
 returns : tie.Need-returns
 unfolding deskText

@@ -5,7 +5,7 @@ use native.Mathlib.Omega.{arith}
 use lib.IntN.{ℤ, pos}
 use Rattle.console.specs.Desk.{hostText}
 use Rattle.text.proofs.Arrays.{counted}
-use Rattle.lines.proofs.Answered.{short-log, log-text}
+use Rattle.lines.proofs.Answered.{distinct, short-log, log-text}
 use Rattle.console.proofs.Whole.{printed}
 use Rattle.console.proofs.host_text.Statement.{statement}
 use Rattle.console.proofs.host_text.Tie as tie
@@ -13,7 +13,7 @@ use Rattle.console.proofs.host_text.Tie as tie
 put-log-requires : tie.Need-put-log-requires
 put-log-requires c κs =
     let r = c .before .before .before .before .before .before .run-bytes .ensures in
-    (search needs, search needs, omega (arith, short-log _ _ _ _ _ _ _ (r .1)))
+    (search needs, search needs, omega (arith, short-log _ _ _ _ _ _ _ (r .1)), distinct _ _ _ _ _ _ _ (r .1))
 
 returns : tie.Need-returns
 unfolding hostText

@@ -1,10 +1,10 @@
 -- `console::to_words` meets its contract: before word k, what is left of the words is still to write.
--- Rests on Handed and the planner's Filled.
+-- Rests on Handed and answers' Filled.
 use borrow.Author.Needs.{needs}
 use mathlib.Core.Path.{sym, _∙_}
 use Prim.Native.Nat.{_-_}
 use native.Mathlib.Omega.{arith}
-use Rattle.planner.proofs.Filled.{Filling, start, again, done}
+use Rattle.answers.proofs.Filled.{Filling, start, again, done}
 use Rattle.console.specs.Bytes.{wholeWords}
 use Rattle.console.proofs.Handed.{whole-length, whole-at}
 use Rattle.console.proofs.to_words.Statement.{statement}

@@ -3,8 +3,8 @@ use borrow.Author.Needs.{needs}
 use mathlib.Core.Path.{refl}
 use Prim.Native.Nat.{_+_, _-_}
 use native.Mathlib.Omega.{arith}
+use Rattle.answers.proofs.Filled.{Filling, start}
 use Rattle.machine.specs.Effect.{cellAt}
-use Rattle.planner.proofs.Filled.{Filling, start}
 use Rattle.requests.proofs.Copied.{ones, one-copied, all-copied}
 use Rattle.engine.proofs.copy_out.Statement.{statement}
 use Rattle.engine.proofs.copy_out.Tie as tie
@@ -43,9 +43,6 @@ loop-again : tie.Need-loop-again Inv-loop μ-loop
 loop-again c =
     one-copied _ _ _ _ _ (c .before .before .loop .inv) _ (c .value .given) refl (c .before .loop-test .taken)
 
-same-length : tie.Need-same-length Inv-loop μ-loop
-same-length c = search needs
-
 returns : tie.Need-returns Inv-loop μ-loop
 returns c = all-copied _ _ _ _ _ (c .before .loop .inv) (c .loop-test .left) (c .before .before .pre .1)
 
@@ -64,5 +61,5 @@ copy-out-spec =
     add-v
     loop-less
     loop-again
-    same-length
+    (λ c. search needs)
     returns)

@@ -42,27 +42,15 @@ passed : (c : tie.After-read-header)
 unfolding begun checked
 passed c = record { fine = fine (checked c); is = c .read-header .ensures }
 
-check-requires : tie.Need-check-requires
-check-requires c κs = search needs
-
-enum-known-refusal : tie.Need-enum-known-refusal
-enum-known-refusal c = search needs
-
 returns : tie.Need-returns
 unfolding lent
 returns c =
     let s = c .before .before .before .before .before .before in
     refused (s .args .request .now) (lent s) _ (rw (c .before .refusal .given .1) at (c .before .before .before .check .ensures))
 
-enum-told : tie.Need-enum-told
-enum-told c = search needs
-
 shared-slice-read-read-header : tie.Need-shared-slice-read-read-header
 unfolding begun
 shared-slice-read-read-header c = omega (arith, limits _ (lent (begun (c .before))) (fine (c .before)) .some-word)
-
-read-header-requires : tie.Need-read-header-requires
-read-header-requires c κs = search needs
 
 lay-requires : tie.Need-lay-requires
 unfolding begun checked lent
@@ -79,12 +67,6 @@ verdict-requires c κs =
     let l = laid k in
     let p = passed (read l) in
     (allowed p, left-enough p (l .lay .ensures) (k .carry .ensures))
-
-same-length : tie.Need-same-length
-same-length c = search needs
-
-same-length-2 : tie.Need-same-length-2
-same-length-2 c = search needs
 
 returns-2 : tie.Need-returns-2
 unfolding begun checked read laid carried lent
@@ -123,18 +105,6 @@ copy-out-requires-2 c κs =
     let p = passed (read l) in
     (can-copy p (l .lay .ensures) (k .carry .ensures) _ (a .results-at .ensures), results-enough p .1)
 
-same-length-3 : tie.Need-same-length-3
-same-length-3 c = search needs
-
-same-length-4 : tie.Need-same-length-4
-same-length-4 c = search needs
-
-same-length-5 : tie.Need-same-length-5
-same-length-5 c = search needs
-
-same-length-6 : tie.Need-same-length-6
-same-length-6 c = search needs
-
 returns-3 : tie.Need-returns-3
 unfolding begun checked read laid carried lent
 returns-3 c =
@@ -151,24 +121,24 @@ pub run-spec : {M : Type 1} → statement M
 run-spec =
     tie.close
     (tie.spec
-    check-requires
-    enum-known-refusal
+    (λ c κs. search needs)
+    (λ c. search needs)
     returns
-    enum-told
+    (λ c. search needs)
     shared-slice-read-read-header
-    read-header-requires
+    (λ c κs. search needs)
     lay-requires
     carry-requires
     verdict-requires
-    same-length
-    same-length-2
+    (λ c. search needs)
+    (λ c. search needs)
     returns-2
     results-at-requires
     copy-out-requires
     add-copy-out
     copy-out-requires-2
-    same-length-3
-    same-length-4
-    same-length-5
-    same-length-6
+    (λ c. search needs)
+    (λ c. search needs)
+    (λ c. search needs)
+    (λ c. search needs)
     returns-3)

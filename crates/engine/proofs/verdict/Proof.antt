@@ -1,56 +1,51 @@
 -- `engine::verdict` meets its contract: a law for each way out. Rests on Placed.
 use borrow.Author.Needs.{needs}
+use mathlib.Core.Path.{_≡_}
+use mathlib.Core.Option.{some}
 use native.Mathlib.Omega.{arith}
-use Rattle.plans.proofs.Headers.{edges-small}
-use Rattle.planner.proofs.Placed.{method-two}
-use Rattle.requests.proofs.Sizes.{cells-one}
-use Rattle.engine.proofs.Placed.{no-cycle, cycle, nothing-opened}
+use Rattle.plans.specs.Plan.{verdictCell}
+use Rattle.engine.proofs.Placed.{verdict-few, verdict-there, no-cycle, cycle, nothing-opened}
 use Rattle.engine.proofs.verdict.Statement.{statement}
 use Rattle.engine.proofs.verdict.Tie as tie
 
-mul-x : tie.Need-mul-x
-mul-x c = omega (arith, edges-small _ (c .before .before .before .pre .0), c .before .before .before .pre .0 .vertices-few)
+-- The cell that was found.
+opened : (c : tie.After-known-told) → some (c .before .cell .given .0 .0) ≡ verdictCell (c .before .before .before .before .args .h)
+opened c = rw (c .before .cell .given .1) at (c .before .before .before .verdict-cell .ensures)
 
-mul-x-2 : tie.Need-mul-x-2
-mul-x-2 c = search needs
-
-add-x : tie.Need-add-x
-add-x c = omega (arith, edges-small _ (c .before .before .before .before .pre .0), c .before .before .before .before .pre .0 .vertices-few)
-
-add-flag : tie.Need-add-flag
-add-flag c = omega (arith, edges-small _ (c .before .before .before .before .pre .0), c .before .before .before .before .pre .0 .vertices-few)
-
-mul-flag : tie.Need-mul-flag
-mul-flag c = omega (arith, edges-small _ (c .before .before .before .before .pre .0), c .before .before .before .before .pre .0 .vertices-few)
-
-shared-slice-copy-out-flag : tie.Need-shared-slice-copy-out-flag
-shared-slice-copy-out-flag c =
+mul-if1 : tie.Need-mul-if1
+mul-if1 c =
     let s = c .before .before .before .before in
-    omega (arith, cells-one (s .args .h) (c .before .before .if1 .taken), s .pre .1)
+    omega (arith, verdict-few (s .args .h) _ (opened c) (s .pre .0))
+
+shared-slice-copy-out-if1 : tie.Need-shared-slice-copy-out-if1
+shared-slice-copy-out-if1 c =
+    let s = c .before .before .before .before in
+    verdict-there (s .args .h) (s .args .cells .now) _ (opened c) (s .pre .0) (s .pre .1)
 
 returns : tie.Need-returns
 returns c =
-    let s = c .before .before .before .before .before .before in
-    no-cycle (s .args .h) (s .args .cells .now) (c .before .before .before .before .if1 .taken) (c .before .flag .given) (c .if2 .taken)
+    let t = c .before .before in
+    no-cycle _ _ _ (opened t) (c .before .if12 .given) (c .if1 .taken)
 
 returns-2 : tie.Need-returns-2
 returns-2 c =
-    let s = c .before .before .before .before .before .before in
-    cycle (s .args .h) (s .args .cells .now) (c .before .before .before .before .if1 .taken) (c .if2 .left)
+    let t = c .before .before in
+    cycle _ _ _ (opened t) (c .if1 .left)
 
 returns-3 : tie.Need-returns-3
-returns-3 c = nothing-opened _ _ (method-two _ (c .before .before .pre .0) (c .if1 .left))
+returns-3 c =
+    let v = c .before .before in
+    nothing-opened _ _ (rw (c .enum-told .given .1) at (v .verdict-cell .ensures))
 
 pub verdict-spec : {M : Type 1} → statement M
 verdict-spec =
     tie.close
     (tie.spec
-    mul-x
-    mul-x-2
-    add-x
-    add-flag
-    mul-flag
-    shared-slice-copy-out-flag
+    (λ c κs. search needs)
+    (λ c. search needs)
+    mul-if1
+    shared-slice-copy-out-if1
+    (λ c. search needs)
     returns
     returns-2
     returns-3)

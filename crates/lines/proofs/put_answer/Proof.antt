@@ -33,10 +33,11 @@ returns-3 : tie.Need-returns-3
 returns-3 c =
     let p = c .before .before in
     let o = p .before in
-    let a = o .before .before .before .before in
-    let s = a .before .before .before .args in
-    rw (a .answer2 .given .1, sym (refused-text (a .answer2 .given .0 .0) (s .h) (s .distances .now) (s .parents .now)))
-    (wider (rw (o .before .number-of .ensures, o .place-of .ensures) at (p .put-refusal2 .ensures)) 2206 (omega arith))
+    let a = o .before .before .before in
+    let s = a .before .before .before in
+    let apart = rw (a .answer2 .given .1) at (s .pre .4) in
+    rw (a .answer2 .given .1, sym (refused-text (a .answer2 .given .0 .0) apart (s .args .h) (s .args .distances .now) (s .args .parents .now)))
+    (wider (rw (o .place-of .ensures) at (p .put-refusal2 .ensures)) 2206 (omega arith))
 
 pub put-answer-spec : {M : Type 1} → statement M
 put-answer-spec =
@@ -47,7 +48,6 @@ put-answer-spec =
     (λ c. search needs)
     (λ c κs. search needs)
     (λ c. search needs)
-    (λ c κs. search needs)
     (λ c κs. search needs)
     (λ c κs. search needs)
     (λ c. search needs)

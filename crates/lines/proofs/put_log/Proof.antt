@@ -43,9 +43,11 @@ returns-3 : tie.Need-returns-3
 returns-3 c =
     let p = c .before .before in
     let o = p .before in
-    let a = o .before .before .before .before in
-    rw (a .answer3 .given .1, sym (refused-log (a .answer3 .given .0 .0) (a .before .before .before .before .args .log .now)))
-    (wider (rw (o .before .number-of .ensures, o .place-of .ensures) at (p .put-refusal .ensures)) 139264 (omega arith))
+    let a = o .before .before .before in
+    let s = a .before .before .before .before in
+    let apart = rw (a .answer3 .given .1) at (s .pre .3) in
+    rw (a .answer3 .given .1, sym (refused-log (a .answer3 .given .0 .0) apart (s .args .log .now)))
+    (wider (rw (o .place-of .ensures) at (p .put-refusal .ensures)) 139264 (omega arith))
 
 pub put-log-spec : {M : Type 1} → statement M
 put-log-spec =
@@ -56,7 +58,6 @@ put-log-spec =
     (λ c. search needs)
     put-words-requires-2
     (λ c. search needs)
-    (λ c κs. search needs)
     (λ c κs. search needs)
     (λ c κs. search needs)
     (λ c. search needs)

@@ -4,11 +4,8 @@ use Rattle.planner.proofs.Headers.{no-edges}
 use Rattle.planner.proofs.most_edges.Statement.{statement}
 use Rattle.planner.proofs.most_edges.Tie as tie
 
-returns : tie.Need-returns
-returns c = search needs
-
 returns-2 : tie.Need-returns-2
 returns-2 c = no-edges _ (c .if1 .left)
 
 pub most-edges-spec : {M : Type 1} → statement M
-most-edges-spec = tie.close (tie.spec returns returns-2)
+most-edges-spec = tie.close (tie.spec (λ c. search needs) returns-2)

@@ -8,23 +8,11 @@ use Rattle.planner.proofs.plan_length.Tie as tie
 mul-square : tie.Need-mul-square
 mul-square c = let s = sizes _ (c .pre) in omega arith
 
-mul-result : tie.Need-mul-result
-mul-result c = search needs
-
-add-result : tie.Need-add-result
-add-result c = search needs
-
 mul-result-2 : tie.Need-mul-result-2
 mul-result-2 c = let s = sizes _ (c .before .before .pre) in omega arith
 
-mul-result-3 : tie.Need-mul-result-3
-mul-result-3 c = search needs
-
 add-result-2 : tie.Need-add-result-2
 add-result-2 c = let s = sizes _ (c .before .before .pre) in omega arith
-
-sub-result : tie.Need-sub-result
-sub-result c = search needs
 
 mul-result-4 : tie.Need-mul-result-4
 mul-result-4 c = let s = sizes _ (c .before .before .pre) in omega arith
@@ -44,9 +32,6 @@ mul-result-6 c = let s = sizes _ (c .before .before .pre) in omega arith
 add-result-4 : tie.Need-add-result-4
 add-result-4 c = let s = sizes _ (c .before .before .pre) in omega arith
 
-mul-result-7 : tie.Need-mul-result-7
-mul-result-7 c = search needs
-
 add-result-5 : tie.Need-add-result-5
 add-result-5 c = let s = sizes _ (c .before .before .pre) in omega arith
 
@@ -61,19 +46,19 @@ plan-length-spec =
     tie.close
     (tie.spec
     mul-square
-    mul-result
-    add-result
+    (λ c. search needs)
+    (λ c. search needs)
     mul-result-2
-    mul-result-3
+    (λ c. search needs)
     add-result-2
-    sub-result
+    (λ c. search needs)
     mul-result-4
     add-result-3
     returns
     mul-result-5
     mul-result-6
     add-result-4
-    mul-result-7
+    (λ c. search needs)
     add-result-5
     add-result-6
     returns-2)

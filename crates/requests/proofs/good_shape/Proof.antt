@@ -1,6 +1,7 @@
 -- `requests::good_shape` meets its contract: a law for each way out. Rests on Words.
 use borrow.Author.Needs.{needs}
 use native.Mathlib.Omega.{arith}
+use Rattle.planner.proofs.Placed.{method-two}
 use Rattle.requests.proofs.Words.{from-high, to-high, spare-edge, spare-entry}
 use Rattle.requests.proofs.good_shape.Statement.{statement}
 use Rattle.requests.proofs.good_shape.Tie as tie
@@ -27,7 +28,7 @@ field-requires-4 : tie.Need-field-requires-4
 field-requires-4 c κs = search needs
 
 returns-4 : tie.Need-returns-4
-returns-4 c = spare-entry _ _ _ (omega arith) (c .field4 .ensures .0)
+returns-4 c = spare-entry _ _ _ (search method-two) (c .field4 .ensures .0)
 
 pub good-shape-spec : {M : Type 1} → statement M
 good-shape-spec =

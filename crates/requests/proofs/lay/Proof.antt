@@ -3,7 +3,7 @@ use borrow.Author.Needs.{needs}
 use Prim.Native.Nat.{_-_}
 use native.Mathlib.Omega.{arith}
 use lib.ListN.{drop}
-use Rattle.planner.proofs.Filled.{Filling, start}
+use Rattle.answers.proofs.Filled.{Filling, start}
 use Rattle.plans.specs.Plan.{cellsOf}
 use Rattle.requests.specs.Intake.{sourceOf, laid, startingCells}
 use Rattle.requests.proofs.Copied.{ones, one-copied, all-copied}

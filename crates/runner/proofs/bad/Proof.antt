@@ -8,11 +8,8 @@ use Rattle.runner.proofs.bad.Tie as tie
 returns : tie.Need-returns
 returns c = rw (le-leb _ _ (c .if1 .taken), or-true)
 
-admits-requires : tie.Need-admits-requires
-admits-requires c κs = search needs
-
 returns-2 : tie.Need-returns-2
 returns-2 c = rw (lt-leb _ _ (c .before .if1 .left), or-false, c .admits .ensures)
 
 pub bad-spec : {M : Type 1} → statement M
-bad-spec = tie.close (tie.spec returns admits-requires returns-2)
+bad-spec = tie.close (tie.spec returns (λ c κs. search needs) returns-2)

@@ -23,9 +23,6 @@ mul-bad c = omega arith
 shared-slice-read-bad : tie.Need-shared-slice-read-bad Inv-loop μ-loop
 shared-slice-read-bad c = omega arith
 
-bad-requires : tie.Need-bad-requires Inv-loop μ-loop
-bad-requires c κs = search needs
-
 returns : tie.Need-returns Inv-loop μ-loop
 returns c =
     let t = c .before .before .before in
@@ -54,7 +51,7 @@ first-bad-spec =
     loop-holds
     mul-bad
     shared-slice-read-bad
-    bad-requires
+    (λ c κs. search needs)
     returns
     add-place
     loop-less

@@ -24,9 +24,6 @@ mul-field c = omega arith
 shared-slice-read-field : tie.Need-shared-slice-read-field Inv-loop μ-loop
 shared-slice-read-field c = omega arith
 
-field-requires : tie.Need-field-requires Inv-loop μ-loop
-field-requires c κs = search needs
-
 add-size : tie.Need-add-size Inv-loop μ-loop
 add-size c = omega arith
 
@@ -56,7 +53,7 @@ log-length-spec =
     loop-holds
     mul-field
     shared-slice-read-field
-    field-requires
+    (λ c κs. search needs)
     add-size
     add-j
     loop-less

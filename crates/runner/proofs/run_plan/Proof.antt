@@ -8,26 +8,15 @@ use Rattle.runner.proofs.Answered.{bad-word, too-short, can-carry, ran}
 use Rattle.runner.proofs.run_plan.Statement.{statement}
 use Rattle.runner.proofs.run_plan.Tie as tie
 
-first-bad-requires : tie.Need-first-bad-requires
-first-bad-requires c κs = search needs
-
-enum-known-place : tie.Need-enum-known-place
-enum-known-place c = search needs
-
 returns : tie.Need-returns
 returns c =
-    bad-word _ _ _ _ (rw (c .before .place .given .1) at (c .before .before .before .first-bad .ensures))
-
-enum-told : tie.Need-enum-told
-enum-told c = search needs
+    let p = c .before .before in
+    bad-word _ _ _ _ _ (c .at .ensures) (rw (p .place .given .1) at (p .before .before .first-bad .ensures))
 
 clear : (c : tie.After-enum-told)
     → let s = c .before .before .before .before .before .args in
     Nothing ≡ foundOf (firstBad (length (s .cells .now)) 1 (drop 1 (s .plan .now)))
 clear c = rw (c .enum-told .given .1) at (c .before .before .first-bad .ensures)
-
-log-length-requires : tie.Need-log-length-requires
-log-length-requires c κs = search needs
 
 returns-2 : tie.Need-returns-2
 returns-2 c =
@@ -41,12 +30,6 @@ carry-plan-requires c κs =
     let s = l .before .before .before .before .before .before .args in
     can-carry (s .plan .now) (s .cells .now) (s .log .now) (clear (l .before)) _ (l .log-length .ensures) (f .if1 .left)
 
-same-length : tie.Need-same-length
-same-length c = search needs
-
-same-length-2 : tie.Need-same-length-2
-same-length-2 c = search needs
-
 returns-3 : tie.Need-returns-3
 returns-3 c =
     let p = c .before .before .before in
@@ -58,13 +41,14 @@ pub run-plan-spec : {M : Type 1} → statement M
 run-plan-spec =
     tie.close
     (tie.spec
-    first-bad-requires
-    enum-known-place
+    (λ c κs. search needs)
+    (λ c. search needs)
+    (λ c κs. search needs)
     returns
-    enum-told
-    log-length-requires
+    (λ c. search needs)
+    (λ c κs. search needs)
     returns-2
     carry-plan-requires
-    same-length
-    same-length-2
+    (λ c. search needs)
+    (λ c. search needs)
     returns-3)

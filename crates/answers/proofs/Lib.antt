@@ -1,0 +1,4 @@
+pub mod Facts
+pub mod Unmet
+pub mod Apart
+pub mod Filled

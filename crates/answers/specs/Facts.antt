@@ -1,0 +1,28 @@
+-- Document 01, "Who caused it", as facts about the refusals: the number of each, and whether it has a place. Rests on the definitions alone.
+use mathlib.Core.Path.{_≡_}
+use mathlib.Core.List.{[]}
+use mathlib.Core.Option.{none, some}
+use Prim.Native.Nat.{ℕ}
+use Rattle.answers.specs.Refusal.{Method, Vertices, Edges, Source, Words, Cells, Log, Results, Operation, Edge, Weight}
+use Rattle.answers.specs.Told.{Told, refused}
+
+-- A refusal that tells its number alone, and one that tells its place too.
+abbrev pub byNumber : (number : ℕ) → Told
+byNumber k = record { number = k; place = none; values = [] }
+
+abbrev pub atPlace : (number place : ℕ) → Told
+atPlace k place = record { number = k; place = some place; values = [] }
+
+pub record Facts : Type 0 where
+  -- "The desk that sends the public part": header missing or method, n, m, source, words after the header.
+  pub desk : (refused Method ≡ byNumber 1)
+      × (refused Vertices ≡ byNumber 2)
+      × (refused Edges ≡ byNumber 3)
+      × (refused Source ≡ byNumber 4)
+      × (refused Words ≡ byNumber 5)
+  -- "The host that lends buffers": cells, log, results.
+  pub host : (refused Cells ≡ byNumber 6) × (refused Log ≡ byNumber 7) × (refused Results ≡ byNumber 8)
+  -- "The sender of a foreign plan", with place.
+  pub sender : refused (Operation 5) ≡ atPlace 9 5
+  -- "A carrier", with place: yards and spare bits, price.
+  pub carrier : (refused (Edge 5) ≡ atPlace 10 5) × (refused (Weight 5) ≡ atPlace 11 5)

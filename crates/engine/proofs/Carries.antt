@@ -1,0 +1,93 @@
+-- A plan written to the log, carried out from there and its verdict published: what `carry` leaves. Rests on Logs.
+use mathlib.Core.Path.{_≡_, sym, ap, _∙_}
+use mathlib.Core.List.{List, _++_}
+use Prim.Native.Nat.{ℕ, _+_, _≤_}
+use native.Mathlib.Nat.{zero-add}
+use native.Mathlib.Omega.{arith}
+use lib.IntN.{ℤ}
+use lib.ListN.{length, take, drop, length-append, length-drop}
+use lib.Seq.{sets, take-append-seam, length-take-le}
+use Rattle.machine.specs.Log.{Admitted, cellsAfter, logOf, sumOf, roundsOf}
+use Rattle.machine.proofs.Carried.{length-after}
+use Rattle.plans.specs.declared.Header.{Header}
+use Rattle.plans.specs.Plan.{Accepted, planOf, cellsOf, lengthOf, verdictCell, published}
+use Rattle.plans.proofs.Addresses.{admitted-plan}
+use Rattle.plans.proofs.Figures.{length-plan}
+use Rattle.answers.proofs.Filled.{from-start}
+use Rattle.answers.specs.Buffers.{overwritten}
+use Rattle.requests.specs.Refusal.{logLengthOf}
+use Rattle.fields.proofs.Sets.{sets-append}
+use Rattle.engine.specs.Run.{openedAt}
+use Rattle.engine.proofs.Logs.{log-plan, log-length}
+
+-- After words from the start of a buffer, more words.
+further : (xs ys buffer : List ℕ) → length xs + length ys ≤ length buffer
+    → sets (overwritten xs buffer) (length xs) ys ≡ overwritten (xs ++ ys) buffer
+further xs ys buffer h =
+    let n = length-append xs ys in
+    ap (λ b. sets b (length xs) ys) (sym (from-start xs buffer (omega arith)))
+    ∙ ap (λ (k : ℕ). sets (sets buffer 0 xs) k ys) (sym (zero-add (length xs)))
+    ∙ sym (sets-append buffer 0 xs ys)
+    ∙ from-start (xs ++ ys) buffer (omega arith)
+
+module _ (h : Header) (a : Accepted h) (cells : List ℤ) (log : List ℕ) (cells-enough : cellsOf h ≤ length cells)
+    (room : length (logOf (planOf h) cells) ≤ length log) where
+  pub plan-room : lengthOf h ≤ length log
+  unfolding logLengthOf
+  plan-room = omega (arith, log-length h a cells)
+
+  -- What `fill` leaves in the log.
+  module _ (size : ℕ) (written : List ℕ) (done : (size ≡ lengthOf h) × (written ≡ overwritten (planOf h) log)) where
+    pub inside : size ≤ length written
+    inside =
+        omega (arith, ap length (done .1), length-append (planOf h) (drop (length (planOf h)) log), length-plan h a)
+
+    pub words-long : size ≡ length (take size written)
+    words-long = sym (length-take-le size written inside)
+
+    plan-there : take size written ≡ planOf h
+    plan-there =
+        rw (done .0, done .1, ← length-plan h a) (take-append-seam (planOf h) (drop (length (planOf h)) log))
+
+    pub words-admitted : Admitted (length cells) (drop 1 (take size written))
+    words-admitted = rw plan-there (admitted-plan h a (length cells) cells-enough)
+
+    -- What `carry_words` answers and leaves.
+    module _ (rounds : ℕ) (left : List ℤ)
+        (carried : (rounds ≡ sumOf roundsOf (drop 1 (take size written))) × (left ≡ cellsAfter (drop 1 (take size written)) cells)) where
+      left-is : left ≡ cellsAfter (drop 1 (planOf h)) cells
+      left-is = carried .1 ∙ rw plan-there
+
+      pub left-enough : cellsOf h ≤ length left
+      left-enough = omega (arith, ap length left-is, length-after (drop 1 (planOf h)) cells)
+
+      pub publish-room : size + length (published (verdictCell h) 0) ≤ length written
+      unfolding logLengthOf
+      publish-room =
+          omega (
+            arith,
+            done .0,
+            ap length (done .1),
+            length-append (planOf h) (drop (length (planOf h)) log),
+            length-drop (length (planOf h)) log,
+            length-plan h a,
+            log-length h a cells,
+          )
+
+      -- What `publish` answers and leaves.
+      pub logged : (end : ℕ) (after : List ℕ)
+          → (end ≡ size + length (openedAt (verdictCell h) left)) × (after ≡ sets written size (openedAt (verdictCell h) left))
+          → (rounds ≡ sumOf roundsOf (drop 1 (planOf h)))
+          × (end ≡ length (logOf (planOf h) cells))
+          × (left ≡ cellsAfter (drop 1 (planOf h)) cells)
+          × (after ≡ overwritten (logOf (planOf h) cells) log)
+      logged end after p =
+          let word = openedAt (verdictCell h) left in
+          let whole : logOf (planOf h) cells ≡ planOf h ++ word = log-plan h a cells ∙ rw left-is in
+          let long = ap length whole ∙ length-append (planOf h) word in
+          let z : size ≡ length (planOf h) = done .0 ∙ sym (length-plan h a) in (
+            carried .0 ∙ rw plan-there,
+            omega (arith, p .0, long),
+            left-is,
+            p .1 ∙ rw (done .1, z, whole) (further (planOf h) word log (omega arith)),
+          )

@@ -1,0 +1,32 @@
+-- What a header asks a caller to lend, and which refusal a header meets that asks for nothing. Rests on headers, plans and refusals.
+use mathlib.Core.List.{List, [], _∷_}
+use mathlib.Core.Option.{Option, none, some}
+use Prim.Native.Nat.{ℕ}
+use Rattle.answers.specs.declared.Refusal.{Refusal}
+use Rattle.answers.specs.Refusal.{Method}
+use Rattle.answers.specs.Told.{Told, refused}
+use Rattle.plans.specs.declared.Header.{Header}
+use Rattle.plans.specs.Plan.{headerOf, cellsOf}
+use Rattle.planner.specs.Refusal.{headerRefusal}
+use Rattle.requests.specs.declared.Asked.{Asked}
+use Rattle.requests.specs.declared.Asked.the-variants.{Needs, Refused}
+use Rattle.requests.specs.Refusal.{logLengthOf}
+
+-- Cells, words of the log, and places of each results buffer.
+abbrev pub asking : (cells log results : ℕ) → Told
+asking cells log results = record { number = 0; place = none; values = cells ∷ log ∷ results ∷ [] }
+
+-- What an answer says.
+abbrev pub toldBySizes : Asked → Told
+toldBySizes (Needs lengths) = asking (lengths .cells) (lengths .log) (lengths .results)
+toldBySizes (Refused r) = refused r
+
+-- For the refusal that the header meets.
+abbrev pub askedBy : Option Refusal → Header → Told
+askedBy none h = asking (cellsOf h) (logLengthOf h) (h .vertices)
+askedBy (some r) h = refused r
+
+-- Of a header's first word: 1 to 4, or the sizes.
+unfoldable pub sizesTold : (header : List ℕ) → Told
+sizesTold [] = refused Method
+sizesTold (w ∷ rest) = askedBy (headerRefusal (headerOf w)) (headerOf w)

@@ -1,0 +1,4 @@
+pub mod Table
+pub mod Writing
+pub mod Rows
+pub mod Code

@@ -1,0 +1,85 @@
+//! A run as an expert writes it in plain Rust: nested loops over slices, with
+//! the scratch cells in locals until the end.
+//!
+//! The words of the log follow from the header alone, so those of an edge, or of
+//! a turn in method 2, are written together and not as each is carried out.
+//! Later passes and turns log the words of the first. They copy them while the
+//! log is short, and make them anew when it is long: whichever is faster.
+
+mod edges;
+mod table;
+
+use crate::reference::plan::{lay, Public, FAR};
+
+/// A longer log does not stay in a core's cache, and then to make a word anew is
+/// faster than to copy it. Method 2's logs are all shorter.
+const CACHED_WORDS: usize = 1 << 17;
+
+/// Runs a sound request and tells its rounds.
+pub fn run(request: &[u64], cells: &mut [i64], log: &mut [u64]) -> u64 {
+    let public = Public::read(request[0]);
+    lay(&public, &request[1..], cells);
+    log[0] = request[0];
+    match public.method {
+        1 => edges::run(&public, cells, &mut log[1..]),
+        _ => table::run(&public, cells, &mut log[1..]),
+    }
+}
+
+/// Logs a row of words for each vertex: those of vertex 0, and after each row
+/// every word steps on to the next vertex.
+#[inline(always)]
+fn log_rows<const N: usize>(block: &mut [u64], mut first: [u64; N], steps: [u64; N]) {
+    for row in block.chunks_exact_mut(N) {
+        row.copy_from_slice(&first);
+        for (word, step) in first.iter_mut().zip(steps) {
+            *word += step;
+        }
+    }
+}
+
+/// Puts the source at 0, all others out of reach, and none has a parent yet.
+fn start(public: &Public, names: &mut [i64], distances: &mut [i64], parents: &mut [i64]) {
+    for (name, vertex) in names.iter_mut().zip(0..) {
+        *name = vertex;
+    }
+    distances.fill(FAR);
+    distances[public.source as usize] = 0;
+    parents.fill(-1);
+}
+
+/// The words of a plan by the names of their operations.
+mod word {
+    use crate::reference::plan::pack;
+
+    /// Added to a word, these raise the address it writes to, its first operand
+    /// and its second; `RIGHT` raises the value of a `set` as well.
+    pub const TO: u64 = 1 << 40;
+    pub const LEFT: u64 = 1 << 20;
+    pub const RIGHT: u64 = 1;
+
+    pub fn set(to: u64, value: i64) -> u64 {
+        to * TO + value as u64 % TO
+    }
+    pub fn copy(to: u64, from: u64) -> u64 {
+        pack(1, to, from, 0)
+    }
+    pub fn add(to: u64, left: u64, right: u64) -> u64 {
+        pack(2, to, left, right)
+    }
+    pub fn less(to: u64, left: u64, right: u64) -> u64 {
+        pack(3, to, left, right)
+    }
+    pub fn equal(to: u64, left: u64, right: u64) -> u64 {
+        pack(4, to, left, right)
+    }
+    pub fn both(to: u64, left: u64, right: u64) -> u64 {
+        pack(5, to, left, right)
+    }
+    pub fn move_if(to: u64, condition: u64, from: u64) -> u64 {
+        pack(6, to, condition, from)
+    }
+    pub fn open(cell: u64) -> u64 {
+        pack(7, 0, cell, 0)
+    }
+}
