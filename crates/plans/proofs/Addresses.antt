@@ -20,7 +20,7 @@ use Rattle.plans.specs.Outline.{fixed, at, after, entry, small, minus-on
 use Rattle.plans.specs.Method1 as Method1
 use Rattle.plans.specs.Method2 as Method2
 use Rattle.plans.specs.Plan.{Accepted, instructionsOf, planOf, cellsOf}
-use Rattle.plans.proofs.Blocks.{all-both, all-map, all-weaken}
+use Rattle.plans.proofs.Blocks.{all-both, all-map}
 use Rattle.plans.proofs.Outlines.{Under, once, under, Each, all-lines}
 use Rattle.plans.proofs.Bounds.{square-le}
 use Rattle.plans.proofs.Headers.{by-method}
@@ -112,11 +112,6 @@ unfolding cellsOf
 cells-few =
     by-method (λ h. cellsOf h ≤ 1190) (λ n m source a. omega arith)
     (λ n source a. omega (arith, square-le n (omega arith)))
-
-pub addresses-plan : (h : Header) → Accepted h → All (λ i. All (λ a. a < cellsOf h) (addresses i)) (instructionsOf h)
-addresses-plan h a =
-    all-weaken (Below (cellsOf h)) (λ i. All (λ a. a < cellsOf h) (addresses i)) (λ i b. b .0) (instructionsOf h)
-    (below-plan h a (cellsOf h) (omega arith))
 
 pub fits-plan : (h : Header) → Accepted h → All Fits (instructionsOf h)
 fits-plan h a = below-plan h a (2 ^ 20) (omega (arith, cells-few h a))

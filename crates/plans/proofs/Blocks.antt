@@ -93,10 +93,6 @@ module _ {X : Type 0} (P : X → Type 0) where
   all-map f Q s [] p = tt
   all-map f Q s (x ∷ xs) p = (s x (p .0), all-map f Q s xs (p .1))
 
-  pub all-weaken : (Q : X → Type 0) → ((x : X) → P x → Q x) → (xs : List X) → All P xs → All Q xs
-  all-weaken Q s [] p = tt
-  all-weaken Q s (x ∷ xs) p = (s x (p .0), all-weaken Q s xs (p .1))
-
 -- ---- mapped
 
 module _ {X Z : Type 0} (f : X → Z) where
@@ -104,8 +100,3 @@ module _ {X Z : Type 0} (f : X → Z) where
   unfolding flat
   map-flat zero g = refl
   map-flat (suc count) g = map-append f (flat count g) (g count) ∙ ap (λ l. l ++ map f (g count)) (map-flat count g)
-
-  pub map-at : (xs : List X) (k : ℕ) (d : X) (e : Z) → k < length xs → getD (map f xs) k e ≡ f (getD xs k d)
-  map-at [] k d e h = absurd (not-suc-le-zero h)
-  map-at (x ∷ xs) zero d e h = refl
-  map-at (x ∷ xs) (suc k) d e h = map-at xs k d e (le-of-suc-le-suc h)

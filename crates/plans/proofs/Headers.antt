@@ -1,20 +1,18 @@
--- Accepted headers, method by method: what holds of each method's headers holds of every accepted one. And the words of a header's plan.
--- Rests on blocks.
+-- Accepted headers, method by method: what holds of each method's headers holds of every accepted one. And how long a header's plan is.
+-- Rests on the definitions alone.
 use mathlib.Core.Path.{_≡_, refl}
 use mathlib.Core.Logic.{_⊎_, inl, inr}
 use mathlib.Core.Bool.{true}
 use Prim.Native.Nat.{ℕ, zero, suc, _+_, _^_, _<_, _≤_}
 use native.Mathlib.Omega.{arith}
 use lib.Dec.{T}
-use lib.ListN.{length, getD, length-map}
-use Rattle.machine.specs.Instruction.{Instruction}
+use lib.ListN.{length, length-map}
 use Rattle.machine.specs.Word.{encode}
 use Rattle.plans.specs.declared.Header.{Header}
 use Rattle.plans.specs.Limits.{far, knownMethod}
 use Rattle.plans.specs.Method1 as Method1
 use Rattle.plans.specs.Method2 as Method2
-use Rattle.plans.specs.Plan.{headerWord, Accepted, instructionsOf, planOf}
-use Rattle.plans.proofs.Blocks.{map-at}
+use Rattle.plans.specs.Plan.{Accepted, instructionsOf, planOf}
 
 -- ---- by method
 
@@ -70,17 +68,6 @@ module _ (h : Header) where
   unfolding instructionsOf
   instructions-two e = rw e
 
-  pub plan-first : getD (planOf h) 0 0 ≡ headerWord h
-  unfolding planOf
-  plan-first = refl
-
   pub plan-length : length (planOf h) ≡ length (instructionsOf h) + 1
   unfolding planOf
   plan-length = omega (arith, length-map (instructionsOf h) encode)
-
-  pub plan-at : (k j : ℕ) (d : Instruction ℕ) → k ≡ j + 1 → k < length (planOf h)
-      → getD (planOf h) k 0 ≡ encode (getD (instructionsOf h) j d)
-  unfolding planOf
-  plan-at k j d e l =
-      let s : k ≡ suc j = omega arith in
-      rw s (map-at encode (instructionsOf h) j d 0 (omega (arith, plan-length)))

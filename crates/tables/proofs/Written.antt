@@ -1,5 +1,5 @@
 -- Laws of words written to a buffer: none, one, one list after another, and turn by turn in a loop.
--- Rests on Table's Room and Put alone.
+-- Rests on Writing's Room and Put, and on fields' Sets.
 use mathlib.Core.Path.{_≡_, refl, sym, ap, subst, _∙_}
 use mathlib.Core.Logic.{⊎-elim}
 use mathlib.Core.List.{List, [], _∷_, _++_, append-assoc, append-nil}
