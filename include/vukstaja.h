@@ -10,7 +10,7 @@
 #include <stddef.h>
 #include <stdint.h>
 
-/* The places of an answer's six numbers. */
+/* The places of an answer's seven numbers. */
 enum {
     VUKSTAJA_NUMBER = 0,      /* 0: done; 12: a loss circle, after a run; else the refusal's number */
     VUKSTAJA_HAS_PLACE = 1,   /* 1 where there is a place (refusals 9, 10 and 11), else 0 */
@@ -21,10 +21,11 @@ enum {
     VUKSTAJA_PLAN_LENGTH = 3, /* of a written plan */
     VUKSTAJA_CELLS = 3,       /* of the sizes: cells */
     VUKSTAJA_LOG = 4,         /* words of the log, which are enough for the plan too */
-    VUKSTAJA_RESULTS = 5      /* places of distances, and of parents */
+    VUKSTAJA_DISTANCES = 5,   /* places of distances */
+    VUKSTAJA_PARENTS = 6      /* places of parents */
 };
 
-typedef uint64_t vukstaja_answer[6];
+typedef uint64_t vukstaja_answer[7];
 
 #ifdef __cplusplus
 extern "C" {

@@ -26,6 +26,9 @@ const FIELD_BITS: u32 = 20;
 const FIELD_MAX: u32 = (1 << FIELD_BITS) - 1;
 const NEGATIVE_CYCLE: u64 = 12;
 
+/// What a call answers: number, whether there is a place, place, and up to four values.
+type Numbers = [u64; 7];
+
 extern "C" {
     fn vukstaja_run(
         request: *const u64,
@@ -38,7 +41,7 @@ extern "C" {
         distances_len: usize,
         parents: *mut i64,
         parents_len: usize,
-        answer: *mut [u64; 6],
+        answer: *mut Numbers,
     );
     fn vukstaja_run_plan(
         plan: *const u64,
@@ -47,16 +50,16 @@ extern "C" {
         cells_len: usize,
         log: *mut u64,
         log_len: usize,
-        answer: *mut [u64; 6],
+        answer: *mut Numbers,
     );
     fn vukstaja_write_plan(
         header: *const u64,
         header_len: usize,
         plan: *mut u64,
         plan_len: usize,
-        answer: *mut [u64; 6],
+        answer: *mut Numbers,
     );
-    fn vukstaja_sizes(header: *const u64, header_len: usize, answer: *mut [u64; 6]);
+    fn vukstaja_sizes(header: *const u64, header_len: usize, answer: *mut Numbers);
 }
 
 /// How a request gives its graph, and which plan answers it.
@@ -114,8 +117,8 @@ pub struct Sizes {
     pub cells: usize,
     /// Words of the log; the plan has no more.
     pub log: usize,
-    /// Places of distances, and of parents.
-    pub results: usize,
+    pub distances: usize,
+    pub parents: usize,
 }
 
 /// What a request's run tells beside its buffers.
@@ -203,7 +206,7 @@ pub fn run(
     distances: &mut [i64],
     parents: &mut [i64],
 ) -> Answer {
-    let mut answer = [0; 6];
+    let mut answer = Numbers::default();
     // SAFETY: each pointer and length come from one live slice, never null;
     // the exclusive borrows do not overlap, and the library keeps none of them.
     unsafe {
@@ -221,7 +224,7 @@ pub fn run(
             &mut answer,
         );
     }
-    let [number, _, _, rounds, log_length, verdict] = answer;
+    let [number, _, _, rounds, log_length, verdict, _] = answer;
     let report = Report {
         rounds,
         log_length,
@@ -236,7 +239,7 @@ pub fn run(
 
 /// Runs a foreign plan on the cells lent.
 pub fn run_plan(plan: &[u64], cells: &mut [i64], log: &mut [u64]) -> Result<PlanReport, Refusal> {
-    let mut answer = [0; 6];
+    let mut answer = Numbers::default();
     // SAFETY: each pointer and length come from one live slice, never null;
     // the exclusive borrows do not overlap, and the library keeps none of them.
     unsafe {
@@ -250,7 +253,7 @@ pub fn run_plan(plan: &[u64], cells: &mut [i64], log: &mut [u64]) -> Result<Plan
             &mut answer,
         );
     }
-    let [number, _, _, rounds, log_length, _] = answer;
+    let [number, _, _, rounds, log_length, ..] = answer;
     match number {
         0 => Ok(PlanReport { rounds, log_length }),
         _ => Err(refusal(&answer)),
@@ -259,7 +262,7 @@ pub fn run_plan(plan: &[u64], cells: &mut [i64], log: &mut [u64]) -> Result<Plan
 
 /// Writes the plan of a header, the first word given, and answers its length.
 pub fn write_plan(header: &[u64], plan: &mut [u64]) -> Result<u64, Refusal> {
-    let mut answer = [0; 6];
+    let mut answer = Numbers::default();
     // SAFETY: each pointer and length come from one live slice, never null;
     // the exclusive borrow does not overlap, and the library keeps neither.
     unsafe {
@@ -279,18 +282,19 @@ pub fn write_plan(header: &[u64], plan: &mut [u64]) -> Result<u64, Refusal> {
 
 /// Tells what a header, the first word given, asks a caller to lend.
 pub fn sizes(header: &[u64]) -> Result<Sizes, Refusal> {
-    let mut answer = [0; 6];
+    let mut answer = Numbers::default();
     // SAFETY: the pointer and length come from one live slice, never null,
     // and the library does not keep it.
     unsafe {
         vukstaja_sizes(header.as_ptr(), header.len(), &mut answer);
     }
-    let [number, _, _, cells, log, results] = answer;
+    let [number, _, _, cells, log, distances, parents] = answer;
     match number {
         0 => Ok(Sizes {
             cells: cells as usize,
             log: log as usize,
-            results: results as usize,
+            distances: distances as usize,
+            parents: parents as usize,
         }),
         _ => Err(refusal(&answer)),
     }
@@ -302,8 +306,8 @@ pub fn solve(request: &[u64]) -> Result<Routes, Refusal> {
     let header = Header::from_word(request[0]).expect("a header with sizes has a method");
     let mut cells = vec![0; sizes.cells];
     let mut log = vec![0; sizes.log];
-    let mut distances = vec![0; sizes.results];
-    let mut parents = vec![0; sizes.results];
+    let mut distances = vec![0; sizes.distances];
+    let mut parents = vec![0; sizes.parents];
     match run(request, &mut cells, &mut log, &mut distances, &mut parents) {
         Answer::Ran(report) => Ok(Routes {
             header,
@@ -328,7 +332,7 @@ fn known(parent: i64) -> Option<usize> {
     (parent != NO_PARENT).then_some(parent as usize)
 }
 
-fn refusal(answer: &[u64; 6]) -> Refusal {
+fn refusal(answer: &Numbers) -> Refusal {
     Refusal {
         number: answer[0],
         place: (answer[1] == 1).then_some(answer[2]),

@@ -17,11 +17,11 @@ fn refused(refusal: Refusal) -> Outcome {
     Outcome {
         number: refusal.number,
         place: refusal.place,
-        values: [0; 3],
+        values: [0; 4],
     }
 }
 
-fn ran(number: u64, values: [u64; 3]) -> Outcome {
+fn ran(number: u64, values: [u64; 4]) -> Outcome {
     Outcome {
         number,
         place: None,
@@ -38,8 +38,8 @@ fn library_run(request: &[u64], lent: &mut Buffers) -> Outcome {
         &mut lent.parents,
     );
     match answer {
-        Answer::Ran(r) => ran(0, [r.rounds, r.log_length, r.verdict]),
-        Answer::NegativeCycle(r) => ran(12, [r.rounds, r.log_length, r.verdict]),
+        Answer::Ran(r) => ran(0, [r.rounds, r.log_length, r.verdict, 0]),
+        Answer::NegativeCycle(r) => ran(12, [r.rounds, r.log_length, r.verdict, 0]),
         Answer::Refused(refusal) => refused(refusal),
     }
 }
@@ -195,7 +195,7 @@ fn solved_requests() {
 
 fn compare_routes(routes: &Routes, expected: &Outcome, left: &Buffers) {
     let report = routes.report;
-    let values = [report.rounds, report.log_length, report.verdict];
+    let values = [report.rounds, report.log_length, report.verdict, 0];
     assert_eq!(ran(0, values), *expected);
     assert_eq!(routes.log, left.log[..routes.log.len()]);
     assert_eq!(routes.log.len() as u64, report.log_length);
@@ -239,7 +239,7 @@ fn compare_plan(plan: &[u64], cells: Vec<i64>, log: Vec<u64>) -> Outcome {
     let (mut our_cells, mut our_log) = (cells.clone(), log.clone());
     let (mut their_cells, mut their_log) = (cells, log);
     let outcome = match vukstaja::run_plan(plan, &mut our_cells, &mut our_log) {
-        Ok(report) => ran(0, [report.rounds, report.log_length, 0]),
+        Ok(report) => ran(0, [report.rounds, report.log_length, 0, 0]),
         Err(refusal) => refused(refusal),
     };
     let expected = reference::run_plan(plan, &mut their_cells, &mut their_log);
@@ -290,8 +290,8 @@ fn plan_cells(random: &mut Random, count: usize) -> Vec<i64> {
 #[test]
 fn empty_plan() {
     let outcome = compare_plan(&[], vec![5], vec![6]);
-    assert_eq!(outcome, ran(0, [0; 3]));
-    assert_eq!(compare_plan(&[], vec![], vec![]), ran(0, [0; 3]));
+    assert_eq!(outcome, ran(0, [0; 4]));
+    assert_eq!(compare_plan(&[], vec![], vec![]), ran(0, [0; 4]));
 }
 
 #[test]
@@ -308,7 +308,7 @@ fn last_place_of_a_plan() {
 fn compare_written(header: &[u64], lent: Vec<u64>) -> Outcome {
     let (mut ours, mut theirs) = (lent.clone(), lent);
     let outcome = match vukstaja::write_plan(header, &mut ours) {
-        Ok(length) => ran(0, [length, 0, 0]),
+        Ok(length) => ran(0, [length, 0, 0, 0]),
         Err(refusal) => refused(refusal),
     };
     assert_eq!(outcome, reference::write_plan(header, &mut theirs));
@@ -359,7 +359,10 @@ fn written_plans_have_the_stated_lengths() {
 
 fn compare_sizes(header: &[u64]) -> Outcome {
     let outcome = match vukstaja::sizes(header) {
-        Ok(sizes) => ran(0, [sizes.cells, sizes.log, sizes.results].map(|x| x as u64)),
+        Ok(sizes) => {
+            let lengths = [sizes.cells, sizes.log, sizes.distances, sizes.parents];
+            ran(0, lengths.map(|length| length as u64))
+        }
         Err(refusal) => refused(refusal),
     };
     assert_eq!(outcome, reference::sizes(header), "{header:x?}");
@@ -380,7 +383,10 @@ fn sizes_of_headers() {
     }
     println!("20000 headers' sizes, by number: {seen:?}");
     assert!(seen.iter().all(|&count| count > 100), "{seen:?}");
-    let most = [(1, 128, [488, 1_060_837, 32]), (2, 0, [1190, 44_227, 32])];
+    let most = [
+        (1, 128, [488, 1_060_837, 32, 32]),
+        (2, 0, [1190, 44_227, 32, 32]),
+    ];
     for (method, m, sizes) in most {
         assert_eq!(compare_sizes(&[pack(method, 32, m, 31)]), ran(0, sizes));
     }

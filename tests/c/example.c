@@ -7,7 +7,7 @@
 
 /* What a run is lent. */
 struct buffers {
-    size_t cells_length, log_length, results_length;
+    size_t cells_length, log_length, distances_length, parents_length;
     int64_t *cells, *distances, *parents;
     uint64_t *log;
 };
@@ -15,7 +15,7 @@ struct buffers {
 static void print_answer(const char *call, const vukstaja_answer answer)
 {
     printf("%s:", call);
-    for (int i = 0; i < 6; i++)
+    for (int i = 0; i < 7; i++)
         printf(" %" PRIu64, answer[i]);
     printf("\n");
 }
@@ -42,11 +42,12 @@ static struct buffers made_for(uint64_t header)
     return (struct buffers){
         .cells_length = sizes[VUKSTAJA_CELLS],
         .log_length = sizes[VUKSTAJA_LOG],
-        .results_length = sizes[VUKSTAJA_RESULTS],
+        .distances_length = sizes[VUKSTAJA_DISTANCES],
+        .parents_length = sizes[VUKSTAJA_PARENTS],
         .cells = zeros(sizes[VUKSTAJA_CELLS]),
         .log = zeros(sizes[VUKSTAJA_LOG]),
-        .distances = zeros(sizes[VUKSTAJA_RESULTS]),
-        .parents = zeros(sizes[VUKSTAJA_RESULTS]),
+        .distances = zeros(sizes[VUKSTAJA_DISTANCES]),
+        .parents = zeros(sizes[VUKSTAJA_PARENTS]),
     };
 }
 
@@ -61,7 +62,7 @@ static void give_back(struct buffers *lent)
 static void run(const uint64_t *request, size_t length, struct buffers *lent, vukstaja_answer *answer)
 {
     vukstaja_run(request, length, lent->cells, lent->cells_length, lent->log, lent->log_length,
-                 lent->distances, lent->results_length, lent->parents, lent->results_length, answer);
+                 lent->distances, lent->distances_length, lent->parents, lent->parents_length, answer);
 }
 
 static void run_request(void)
@@ -71,7 +72,7 @@ static void run_request(void)
     vukstaja_answer answer;
     run(request, 2, &lent, &answer);
     print_answer("run", answer);
-    for (size_t v = 0; v < lent.results_length; v++)
+    for (size_t v = 0; v < lent.distances_length; v++)
         printf("%zu %" PRId64 " %" PRId64 "\n", v, lent.distances[v], lent.parents[v]);
     give_back(&lent);
 }

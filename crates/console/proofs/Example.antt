@@ -13,11 +13,11 @@ use Rattle.plans.specs.Blocks.{flat}
 use Rattle.plans.specs.Outline.{instructions}
 use Rattle.plans.specs.Method1 as Method1
 use Rattle.plans.specs.Method2 as Method2
-use Rattle.plans.specs.Plan.{instructionsOf, planOf, cellsOf, lengthOf, verdictCell}
+use Rattle.plans.specs.Plan.{instructionsOf, planOf, wordCountOf, cellsOf, resultsOf, lengthOf, verdictCell}
 use Rattle.planner.specs.Refusal.{headerRefusal}
 use Rattle.requests.specs.Word.{weightOf}
-use Rattle.requests.specs.Refusal.{wordCountOf, logLengthOf, sizesRefusal, shapeGood, weightGood, wordRefusal, wordsRefusal, requestRefusal}
-use Rattle.requests.specs.Intake.{sourceOf, laid, copied, startingCells, distanceCell, parentCell}
+use Rattle.requests.specs.Refusal.{logLengthOf, sizesRefusal, shapeGood, weightGood, wordRefusal, wordsRefusal, requestRefusal}
+use Rattle.requests.specs.Intake.{stripsOf, sourceOf, laid, copied, startingCells}
 use Rattle.engine.specs.Run.{verdictOf, outcome}
 use Rattle.console.specs.Bytes.{joinedFrom, wholeWords, handedOver, requestOf}
 use Rattle.lines.specs.Texts.{textOf, logText}
@@ -58,7 +58,7 @@ pub record Example : Type 0 where
   pub digits : hexadecimal 0xFEDCBA9876543210 ≡ 102 ∷ 101 ∷ 100 ∷ 99 ∷ 98 ∷ 97 ∷ 57 ∷ 56 ∷ 55 ∷ 54 ∷ 53 ∷ 52 ∷ 51 ∷ 50 ∷ 49 ∷ 48 ∷ []
 
 pub example : Example
-unfolding leading decimal signed hexadecimal lineOf signedOf bitsOf bit wrapAdd both pick perform packed packedSet decodeAt zerosKept present admissibleAt carry logged cellsAfter logFrom logOf withoutPublishedFrom withoutPublished roundsOf sumOf chargeOf flat instructions Method1.plan Method2.plan instructionsOf planOf cellsOf lengthOf headerRefusal weightOf wordCountOf logLengthOf verdictCell sizesRefusal shapeGood weightGood wordRefusal wordsRefusal requestRefusal sourceOf laid startingCells distanceCell parentCell verdictOf copied outcome joinedFrom wholeWords handedOver requestOf textOf logText deskText hostText
+unfolding leading decimal signed hexadecimal lineOf signedOf bitsOf bit wrapAdd both pick perform packed packedSet decodeAt zerosKept present admissibleAt carry logged cellsAfter logFrom logOf withoutPublishedFrom withoutPublished roundsOf sumOf chargeOf flat instructions Method1.plan Method2.plan instructionsOf planOf cellsOf resultsOf lengthOf headerRefusal weightOf wordCountOf logLengthOf verdictCell sizesRefusal shapeGood weightGood wordRefusal wordsRefusal requestRefusal stripsOf sourceOf laid startingCells verdictOf copied outcome joinedFrom wholeWords handedOver requestOf textOf logText deskText hostText
 example =
     record {
       results = refl;

@@ -15,13 +15,14 @@ use Rattle.answers.specs.declared.Refusal.{Refusal}
 use Rattle.answers.specs.Refusal.{Words, orElse}
 use Rattle.answers.specs.Buffers.{overwritten}
 use Rattle.plans.specs.declared.Header.{Header}
-use Rattle.plans.specs.Plan.{Accepted, headerOf}
+use Rattle.plans.specs.Plan.{Accepted, headerOf, wordCountOf}
 use Rattle.plans.specs.Blocks.{flat}
 use Rattle.plans.proofs.Bounds.{square-le}
 use Rattle.plans.proofs.Headers.{by-method}
 use Rattle.planner.specs.Refusal.{headerRefusal}
 use Rattle.planner.proofs.Headers.{accepted}
-use Rattle.requests.specs.Refusal.{wordCountOf, sizesRefusal, requestRefusal}
+use Rattle.requests.specs.declared.Lengths.{Lengths}
+use Rattle.requests.specs.Refusal.{sizesRefusal, requestRefusal}
 use Rattle.console.specs.Bytes.{joinedFrom, wordAt, tooMany, wholeCount, wholeWords, handedOver, requestOf}
 use Rattle.console.proofs.Handed.{whole-handed, broken-handed, whole-length, whole-at, padded-length, first-word}
 
@@ -32,21 +33,21 @@ unfolding wordCountOf
 words-most =
     by-method (λ h. wordCountOf h ≤ 1024) (λ n m source a. omega (arith, a .edges-few)) (λ n source a. square-le n (a .vertices-few))
 
-by-header : (h : Header) (words : List ℕ) (cells log distances parents : ℕ) (o later : Option Refusal) → headerRefusal h ≡ o
+by-header : (h : Header) (words : List ℕ) (lent : Lengths) (o later : Option Refusal) → headerRefusal h ≡ o
     → 1024 < length words
-    → orElse o (orElse (sizesRefusal h (length words) cells log distances parents) later) ≡ orElse o (some Words)
+    → orElse o (orElse (sizesRefusal h (length words) lent) later) ≡ orElse o (some Words)
 unfolding sizesRefusal
-by-header h words cells log distances parents none later e l =
+by-header h words lent none later e l =
     let m = words-most h (accepted h (sym e)) in
     rw (ne-eqb (length words) (wordCountOf h) (λ q. omega arith))
-by-header h words cells log distances parents (some r) later e l = refl
+by-header h words lent (some r) later e l = refl
 
-pub too-many : (request : List ℕ) (cells log distances parents : ℕ) → 1025 < length request
-    → requestRefusal request cells log distances parents ≡ orElse (headerRefusal (headerOf (getD request 0 0))) (some Words)
+pub too-many : (request : List ℕ) (lent : Lengths) → 1025 < length request
+    → requestRefusal request lent ≡ orElse (headerRefusal (headerOf (getD request 0 0))) (some Words)
 unfolding requestRefusal
-too-many [] cells log distances parents l = let no : ⊥ = omega arith in absurd no
-too-many (w ∷ ws) cells log distances parents l =
-    by-header (headerOf w) ws cells log distances parents (headerRefusal (headerOf w)) _ refl (omega arith)
+too-many [] lent l = let no : ⊥ = omega arith in absurd no
+too-many (w ∷ ws) lent l =
+    by-header (headerOf w) ws lent (headerRefusal (headerOf w)) _ refl (omega arith)
 
 -- Broken, or longer than any request.
 abbrev pub Excess : (size : ℕ) → Type 0

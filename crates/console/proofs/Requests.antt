@@ -14,6 +14,7 @@ use Rattle.answers.specs.Buffers.{overwritten}
 use Rattle.plans.specs.Plan.{headerOf}
 use Rattle.plans.specs.Blocks.{flat}
 use Rattle.planner.specs.Refusal.{headerRefusal}
+use Rattle.requests.specs.declared.Lengths.{Lengths}
 use Rattle.requests.specs.Refusal.{requestRefusal}
 use Rattle.console.specs.Bytes.{wordAt, tooMany, wholeCount, wholeWords, handedOver, requestOf}
 use Rattle.console.proofs.Handed.{none-handed, whole-handed, whole-length}
@@ -24,10 +25,10 @@ pub missing : (bytes : List ℕ) → length bytes < 8 → requestOf bytes ≡ []
 unfolding requestOf
 missing bytes h = rw (sym (none-handed (length bytes) h))
 
-pub missing-refused : (bytes : List ℕ) (cells log distances parents : ℕ) → length bytes < 8
-    → requestRefusal (requestOf bytes) cells log distances parents ≡ some Method
+pub missing-refused : (bytes : List ℕ) (lent : Lengths) → length bytes < 8
+    → requestRefusal (requestOf bytes) lent ≡ some Method
 unfolding requestRefusal
-missing-refused bytes cells log distances parents h = rw (missing bytes h)
+missing-refused bytes lent h = rw (missing bytes h)
 
 -- Whole words make the request of just these words.
 pub whole : (bytes : List ℕ) → 8 ≤ length bytes → length bytes ≤ 8208 → length bytes % 8 ≡ 0
@@ -41,11 +42,11 @@ whole bytes h m e =
     ∙ ap (λ (k : ℕ). flat k (λ j. wordAt bytes j ∷ [])) n
 
 -- A broken last word, or more words than any request has: 1 to 4 by the request's own header, or else 5, whatever is lent.
-pub broken : (bytes : List ℕ) (cells log distances parents : ℕ) → 8 ≤ length bytes
+pub broken : (bytes : List ℕ) (lent : Lengths) → 8 ≤ length bytes
     → (length bytes % 8 ≡ 0 → ⊥) ⊎ (8208 ≤ length bytes)
-    → requestRefusal (requestOf bytes) cells log distances parents ≡ orElse (headerRefusal (headerOf (wordAt bytes 0))) (some Words)
-broken bytes cells log distances parents h x =
-    too-many (requestOf bytes) cells log distances parents (omega (arith, padded-count bytes h x))
+    → requestRefusal (requestOf bytes) lent ≡ orElse (headerRefusal (headerOf (wordAt bytes 0))) (some Words)
+broken bytes lent h x =
+    too-many (requestOf bytes) lent (omega (arith, padded-count bytes h x))
     ∙ ap (λ (w : ℕ). orElse (headerRefusal (headerOf w)) (some Words)) (first bytes h)
 
 -- Nothing beyond 8,208 bytes counts, so a program may stop reading there.

@@ -7,6 +7,7 @@ use lib.IntN.{pos}
 use lib.ListN.{length, replicate}
 use Rattle.io.specs.Counts.{Counts}
 use Rattle.answers.specs.Buffers.{overwritten}
+use Rattle.plans.specs.Plan.{byKind}
 use Rattle.engine.specs.Run.{Lent, outcome}
 use Rattle.console.specs.Bytes.{requestOf}
 use Rattle.lines.specs.Texts.{textOf, logText}
@@ -17,8 +18,7 @@ deskLent =
     record {
       cells = replicate 1190 (pos 0);
       log = replicate 8192 0;
-      distances = replicate 32 (pos 0);
-      parents = replicate 32 (pos 0);
+      results = byKind (replicate 32 (pos 0)) (replicate 32 (pos 0));
     }
 
 unfoldable pub deskText : (bytes : List ℕ) → List ℕ

@@ -7,6 +7,7 @@ ghost use Prim.Native.Nat.{_+_, _≤_};
 ghost use lib.ListN.{length};
 ghost use Rattle.answers.specs.Buffers.{overwritten};
 ghost use Rattle.requests.specs.WithinLimits.{headerIn};
+ghost use Rattle.plans.specs.Plan.{byKind};
 ghost use Rattle.engine.specs.Run.{outcome, Met};
 ghost use Rattle.console.specs.Bytes.{joinedFrom, wholeCount, wholeWords, handedOver, requestOf};
 ghost use Rattle.console.specs.Desk.{deskText, hostText, Printed};
@@ -77,7 +78,7 @@ fn run_bytes(
     distances: &mut [i64],
     parents: &mut [i64],
 ) -> Served
-    ensures { λ r. ⌜ (r .header ≡ headerIn (requestOf (now (bytes .entry)))) × Met (outcome (requestOf (now (bytes .entry))) (record { cells = now (cells .entry); log = now (log .entry); distances = now (distances .entry); parents = now (parents .entry) })) (r .answer) (now (cells .exit)) (now (log .exit)) (now (distances .exit)) (now (parents .exit)) ⌝ }
+    ensures { λ r. ⌜ (r .header ≡ headerIn (requestOf (now (bytes .entry)))) × Met (outcome (requestOf (now (bytes .entry))) (record { cells = now (cells .entry); log = now (log .entry); results = byKind (now (distances .entry)) (now (parents .entry)) })) (r .answer) (now (cells .exit)) (now (log .exit)) (byKind (now (distances .exit)) (now (parents .exit))) ⌝ }
 {
     let mut words = [0u64; 1026];
     to_words(bytes, &mut words);

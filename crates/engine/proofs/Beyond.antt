@@ -9,7 +9,7 @@ use lib.ListN.{length, drop, length-drop}
 use lib.Seq.{drop-at, ext-getD, getD-drop}
 use Rattle.machine.specs.Effect.{cellAt}
 use Rattle.machine.proofs.Carried.{length-after}
-use Rattle.plans.specs.Plan.{cellsOf}
+use Rattle.plans.specs.Plan.{cellsOf, resultsOf}
 use Rattle.requests.specs.Refusal.{logLengthOf}
 use Rattle.requests.specs.WithinLimits.{headerIn}
 use Rattle.requests.proofs.Copied.{copied-beyond}
@@ -41,7 +41,6 @@ module _ (request : List ℕ) (lent : Lent) (ran : RanOn request lent) where
 
   pub beyond : Beyond request lent
   beyond =
-      let n = headerIn request .vertices in
       let log = logOfRun request lent in
       let size = log-long request lent ran in
       record {
@@ -49,10 +48,8 @@ module _ (request : List ℕ) (lent : Lent) (ran : RanOn request lent) where
         log =
             rw (log-is request lent ran)
             (drop-at log _ (logLengthOf (headerIn request)) size ∙ ap (λ (k : ℕ). drop k (lent .log)) size);
-        distances =
-            by-verdict request lent ran (λ o. drop n (o .distances) ≡ drop n (lent .distances))
-            (λ e. copied-beyond n _ (lent .distances)) (λ e. refl);
-        parents =
-            by-verdict request lent ran (λ o. drop n (o .parents) ≡ drop n (lent .parents))
-            (λ e. copied-beyond n _ (lent .parents)) (λ e. refl);
+        results = λ k.
+            let n = resultsOf (headerIn request) k .count in
+            by-verdict request lent ran (λ o. drop n (o .results k) ≡ drop n (lent .results k)) (λ e. copied-beyond n _ (lent .results k))
+            (λ e. refl);
       }

@@ -17,7 +17,8 @@ use Rattle.answers.proofs.Filled.{from-start}
 use Rattle.answers.specs.Buffers.{overwritten}
 use Rattle.requests.specs.Refusal.{logLengthOf}
 use Rattle.fields.proofs.Sets.{sets-append}
-use Rattle.engine.specs.Run.{openedAt}
+use Rattle.engine.specs.Run.{openedAt, There}
+use Rattle.engine.proofs.Placed.{verdict-below}
 use Rattle.engine.proofs.Logs.{log-plan, log-length}
 
 -- After words from the start of a buffer, more words.
@@ -58,8 +59,8 @@ module _ (h : Header) (a : Accepted h) (cells : List ℤ) (log : List ℕ) (cell
       left-is : left ≡ cellsAfter (drop 1 (planOf h)) cells
       left-is = carried .1 ∙ rw plan-there
 
-      pub left-enough : cellsOf h ≤ length left
-      left-enough = omega (arith, ap length left-is, length-after (drop 1 (planOf h)) cells)
+      pub verdict-there : There (verdictCell h) (length left)
+      verdict-there = verdict-below h a (length left) (omega (arith, ap length left-is, length-after (drop 1 (planOf h)) cells))
 
       pub publish-room : size + length (published (verdictCell h) 0) ≤ length written
       unfolding logLengthOf

@@ -1,25 +1,29 @@
 -- What a header's plan leaves of cells that intake has laid, whichever the method: the verdict, least totals and their parents.
--- Rests on the methods.
+-- Rests on the methods and on Sources.
 use mathlib.Core.Path.{_≡_, refl, ap}
-use mathlib.Core.Logic.{_↔_}
+use mathlib.Core.Logic.{_↔_, Iff·trans, Iff·not, _≢_}
 use mathlib.Core.Bool.{cond}
 use mathlib.Core.List.{List, [], _∷_}
-use Prim.Native.Nat.{ℕ, zero, suc, _≤_}
+use Prim.Native.Nat.{ℕ, zero, suc, _+_, _*_, _<_, _≤_}
 use native.Mathlib.Omega.{arith}
 use lib.IntN.{ℤ, pos, negsuc, natAbs}
-use lib.ListN.{drop}
+use lib.ListN.{length, getD, drop}
 use Rattle.fields.specs.Fields.{bitsOf}
 use Rattle.machine.specs.Effect.{isZero, cellAt}
 use Rattle.machine.specs.Log.{cellsAfter}
 use Rattle.plans.specs.declared.Header.{Header}
 use Rattle.plans.specs.Limits.{far, mostWeight}
-use Rattle.plans.specs.Plan.{Accepted, cellsOf, instructionsOf, planOf, verdictCell, published}
+use Rattle.plans.specs.Regions.{cell}
+use Rattle.plans.specs.Method1 as Plan1
+use Rattle.plans.specs.Method2 as Plan2
+use Rattle.plans.specs.Plan.{Accepted, cellsOf, instructionsOf, planOf, Kind, distances, parents, resultsOf, verdictCell, published}
 use Rattle.plans.proofs.Headers.{header, by-method}
-use Rattle.requests.specs.Intake.{distanceCell, parentCell}
-use Rattle.graph.specs.Walk.{Edge, NegativeCycle, Below}
-use Rattle.graph.specs.Shortest.{Shortest}
+use Rattle.graph.specs.Walk.{Edge, Network, Below}
+use Rattle.graph.specs.Shortest.{Naming, Distances, Parents, Shortest}
+use Rattle.graph.specs.BellmanFord.{network, numbered}
 use Rattle.graph.specs.Dijkstra.{tableNetwork, fromVertex}
 use Rattle.graph.proofs.Int.{arithℤ}
+use Rattle.graph.proofs.Parents.{parents-carried}
 use Rattle.graph.proofs.Dijkstra.{no-negative-cycle}
 use Rattle.graph.proofs.SameEdges.{cycle-over, shortest-over}
 use Rattle.methods.specs.Bank.{Exact}
@@ -28,7 +32,8 @@ use Rattle.methods.specs.Method2 as Method2
 use Rattle.methods.proofs.Rooms.{today}
 use Rattle.methods.proofs.Headers.{header1, header2}
 use Rattle.engine.specs.Run.{openedAt, verdictOf}
-use Rattle.engine.specs.Network.{edgeOf, Entered, networkOf, namingOf}
+use Rattle.engine.specs.Network.{edgeOf, Entered, networkOf, namingOf, sourcesOf, CycleFrom}
+use Rattle.engine.proofs.Sources.{only-source, only-row}
 use Rattle.engine.proofs.Table.{tableOf}
 
 -- What intake supplies to the header's method.
@@ -38,12 +43,18 @@ pub record Given (h : Header) (ws : List ℕ) (start : List ℤ) : Type 0 where
   pub same : h .method ≡ 2 → (e : Edge) → tableNetwork (natAbs far) (h .vertices) (tableOf (h .vertices) ws) e ↔ Entered (h .vertices) ws e
 
 pub record Left (h : Header) (ws : List ℕ) (start left : List ℤ) : Type 0 where
-  pub cycle : (verdictOf h left ≡ 1) ↔ NegativeCycle (networkOf h ws) (h .source)
-  pub no-cycle : (verdictOf h left ≡ 0) ↔ ¬ NegativeCycle (networkOf h ws) (h .source)
+  pub cycle : (verdictOf h left ≡ 1) ↔ CycleFrom (networkOf h ws) (sourcesOf h)
+  pub no-cycle : (verdictOf h left ≡ 0) ↔ ¬ CycleFrom (networkOf h ws) (sourcesOf h)
   pub below : Below (networkOf h ws) (h .vertices)
-  pub shortest : verdictOf h left ≡ 0
-      → Shortest (networkOf h ws) (namingOf h ws) far (h .vertices) (h .source)
-      (λ v. cellAt left (distanceCell h v)) (λ v. cellAt left (parentCell h v))
+  pub rows : resultsOf h distances .count ≡ length (sourcesOf h) * h .vertices
+  pub parents-row : resultsOf h parents .count ≢ 0
+      → (h .vertices ≤ resultsOf h distances .count) × (h .vertices ≤ resultsOf h parents .count)
+  pub least-totals : verdictOf h left ≡ 0 → (r : ℕ) → r < length (sourcesOf h)
+      → Distances (networkOf h ws) far (h .vertices) (getD (sourcesOf h) r 0)
+      (λ v. cellAt left (resultsOf h distances .first + (r * h .vertices + v)))
+  pub parent-marks : verdictOf h left ≡ 0 → resultsOf h parents .count ≢ 0
+      → Parents (networkOf h ws) (namingOf h ws) far (h .vertices) (h .source)
+      (λ v. cellAt left (resultsOf h distances .first + v)) (λ v. cellAt left (resultsOf h parents .first + v))
   pub rest : (k : ℕ) → cellsOf h ≤ k → cellAt left k ≡ cellAt start k
   pub exact : Exact (instructionsOf h) start
   -- The opened word is the verdict.
@@ -84,34 +95,72 @@ flag (negsuc k) one none = absurd (neither one none (λ e. omega arithℤ) (λ e
 
 -- ---- both methods
 
+-- Of a method with one source: distances and parents, one after the other from these cells on.
+record OneRow (net : Network) (Names : Naming) (n source : ℕ) (left : List ℤ) (from : Kind → ℕ) : Type 0 where
+  row : (r : ℕ) → r < 1 → Distances net far n (getD (source ∷ []) r 0) (λ v. cellAt left (from distances + (r * n + v)))
+  marks : Parents net Names far n source (λ v. cellAt left (from distances + v)) (λ v. cellAt left (from parents + v))
+
+-- From shortest walks as a method has them, in its cells D and P.
+one-row : (net : Network) (Names : Naming) (n source : ℕ) (left : List ℤ) (from : Kind → ℕ) → Below net n → source < n
+    → (D P : ℕ → ℕ) → ((v : ℕ) → from distances + v ≡ D v) → ((v : ℕ) → from parents + v ≡ P v)
+    → Shortest net Names far n source (λ v. cellAt left (D v)) (λ v. cellAt left (P v)) → OneRow net Names n source left from
+one-row net Names n source left from below inside D P d p s =
+    record {
+      row = only-row net source far n _ (λ i. cellAt left (from distances + i)) (λ v. ap (cellAt left) (d v)) (s .distances);
+      marks =
+          parents-carried net far n source _ _ (λ v l. ap (cellAt left) (d v)) Names _ _ below inside (λ v l. ap (cellAt left) (p v))
+          (s .parents);
+    }
+
 pub left : (h : Header) → Accepted h → (ws : List ℕ) (start : List ℤ) → Given h ws start
     → Left h ws start (cellsAfter (drop 1 (planOf h)) start)
-unfolding verdictCell verdictOf networkOf namingOf distanceCell parentCell cellsOf instructionsOf
+unfolding verdictCell verdictOf networkOf namingOf sourcesOf resultsOf cellsOf instructionsOf
 left =
     by-method
     (λ h. (ws : List ℕ) (start : List ℤ) → Given h ws start → Left h ws start (cellsAfter (drop 1 (planOf h)) start))
     (λ n m source a ws start g.
+    let net = network (edgeOf ws) m in
+    let cells = cell (Plan1.starts n m) in
     let o = header1 (header 1 n m source) a start mostWeight today (edgeOf ws) refl (g .one refl) in
-    let f = flag _ (o .cycle) (o .none) in
+    let f = flag _ (Iff·trans (o .cycle) (only-source net source)) (Iff·trans (o .none) (Iff·not (only-source net source))) in
+    let below : Below net n = λ e (i, l, q). rw q (g .one refl .limited .from-below i l, g .one refl .limited .to-below i l) in
+    let walks =
+    one-row net (numbered (edgeOf ws) m) n source (cellsAfter (drop 1 (planOf (header 1 n m source))) start)
+    (λ k. resultsOf (header 1 n m source) k .first) below (a .source-there) (λ v. cells (Plan1.D v)) (λ v. cells (Plan1.P v))
+    (λ v. omega arith) (λ v. omega arith) in
     record {
       cycle = f .set;
       no-cycle = f .unset;
-      below = λ e (i, l, q). rw q (g .one refl .limited .from-below i l, g .one refl .limited .to-below i l);
-      shortest = λ e. o .shortest (f .unset .0 e);
+      below = below;
+      rows = omega arith;
+      parents-row = λ ne. omega arith;
+      least-totals = λ e. walks (o .shortest (Iff·not (only-source net source) .1 (f .unset .0 e))) .row;
+      parent-marks = λ e ne. walks (o .shortest (Iff·not (only-source net source) .1 (f .unset .0 e))) .marks;
       rest = o .rest;
       exact = o .exact;
       opened = ap (λ w. w ∷ []) (f .word);
     })
     (λ n source a ws start g.
+    let net = Entered n ws in
+    let cells = cell (Plan2.starts n) in
     let o = header2 (header 2 n 0 source) a start mostWeight today (tableOf n ws) refl (g .two refl) in
     let same = g .same refl in
-    let no-cycle : ¬ NegativeCycle (Entered n ws) source =
-    λ z. no-negative-cycle (natAbs far) n (tableOf n ws) source (cycle-over _ _ (λ e. same e .1) source z) in
+    let no-cycle : ¬ CycleFrom net (source ∷ []) =
+    Iff·not (only-source net source) .0
+    (λ z. no-negative-cycle (natAbs far) n (tableOf n ws) source (cycle-over _ _ (λ e. same e .1) source z)) in
+    let below : Below net n = λ e r. (r .from-there, r .to-there) in
+    let walks =
+    one-row net fromVertex n source (cellsAfter (drop 1 (planOf (header 2 n 0 source))) start)
+    (λ k. resultsOf (header 2 n 0 source) k .first) below (a .source-there) (λ v. cells (Plan2.D v)) (λ v. cells (Plan2.P v))
+    (λ v. omega arith) (λ v. omega arith) (shortest-over _ _ same far n source _ fromVertex _ (o .shortest)) in
     record {
       cycle = (λ e. absurd (omega arith), λ c. absurd (no-cycle c));
       no-cycle = (λ e. no-cycle, λ f. refl);
-      below = λ e r. (r .from-there, r .to-there);
-      shortest = λ e. shortest-over _ _ same fromVertex far n source _ _ (o .shortest);
+      below = below;
+      rows = omega arith;
+      parents-row = λ ne. omega arith;
+      least-totals = λ e. walks .row;
+      parent-marks = λ e ne. walks .marks;
       rest = o .rest;
       exact = o .exact;
       opened = refl;

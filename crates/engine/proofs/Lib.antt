@@ -2,6 +2,7 @@ pub mod Intake
 pub mod Logs
 pub mod Carries
 pub mod Table
+pub mod Sources
 pub mod Left
 pub mod Taken
 pub mod Ran

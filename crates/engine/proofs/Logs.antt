@@ -18,6 +18,7 @@ use Rattle.machine.proofs.Encoded.{fields-packed, decode-encode, op-encode}
 use Rattle.machine.proofs.Appended.{logged-open, logged-other}
 use Rattle.plans.specs.declared.Header.{Header}
 use Rattle.plans.specs.Limits.{far}
+use Rattle.plans.specs.Regions.{address}
 use Rattle.plans.specs.Outline.{fixed, Cell, Outline, start, cellOf, instructions}
 use Rattle.plans.specs.Outline as Outline
 use Rattle.plans.specs.Method1 as Method1
@@ -133,11 +134,11 @@ log-plan =
     (λ h. (cells : List ℤ) → logOf (planOf h) cells ≡ planOf h ++ openedAt (verdictCell h) (cellsAfter (drop 1 (planOf h)) cells))
     (λ n m source a cells.
     ap (λ (l : List ℕ). headerWord (header 1 n m source) ∷ l)
-    (log-opens (Method1.address (Method1.places n m)) n m source Method1.outline cells (6, fixed 7)
+    (log-opens (address (Method1.starts n m)) n m source Method1.outline cells (Method1.X (fixed 7))
     (past-run (past-line (past-line (past-again (past-each here))))) (omega arith) (fits-plan (header 1 n m source) a) (omega arith)))
     (λ n source a cells.
     ap (λ (l : List ℕ). headerWord (header 2 n 0 source) ∷ l)
-    (log-quiet (Method2.address (Method2.places n)) n 0 source Method2.outline cells (omega arith) (fits-plan (header 2 n 0 source) a)
+    (log-quiet (address (Method2.starts n)) n 0 source Method2.outline cells (omega arith) (fits-plan (header 2 n 0 source) a)
     ∙ sym (append-nil _)))
 
 opened-length : (cell : Option ℕ) (left : List ℤ) → length (openedAt cell left) ≡ length (published cell 0)

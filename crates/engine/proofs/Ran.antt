@@ -17,7 +17,7 @@ use Rattle.requests.specs.Refusal.{logLengthOf}
 use Rattle.requests.specs.WithinLimits.{headerIn, wordsIn, WithinLimits}
 use Rattle.graph.proofs.Test.{by-test}
 use Rattle.requests.proofs.WithinLimits.{accepted-in, within}
-use Rattle.engine.specs.Run.{Lent, Outcome, startOf, logOfRun, cellsLeft, verdictAt, verdictOf, verdictOfRun, ranBy, outcome}
+use Rattle.engine.specs.Run.{Lent, lengthsOf, Outcome, startOf, logOfRun, cellsLeft, verdictAt, verdictOf, verdictOfRun, ranBy, outcome}
 use Rattle.engine.specs.Demands.{RanOn, roundsTold, lengthTold, verdictTold, logTold}
 use Rattle.engine.proofs.Logs.{log-plan, log-length}
 use Rattle.engine.proofs.Left.{Left}
@@ -32,11 +32,11 @@ unfolding verdictOf
 verdict-of h left = verdict-at (verdictCell h) left
 
 module _ (request : List ℕ) (lent : Lent) (ran : RanOn request lent) where
-  pub inside : WithinLimits request (length (lent .cells)) (length (lent .log)) (length (lent .distances)) (length (lent .parents))
-  inside = within request _ _ _ _ .0 ran
+  pub inside : WithinLimits request (lengthsOf lent)
+  inside = within request _ .0 ran
 
   pub allowed : Accepted (headerIn request)
-  allowed = accepted-in _ _ _ _ _ inside
+  allowed = accepted-in _ _ inside
 
   pub leaves : Left (headerIn request) (wordsIn request) (startOf request lent) (cellsLeft request lent)
   leaves = ends request lent inside

@@ -16,14 +16,14 @@ use Rattle.requests.proofs.Laid.{from-laid, to-laid, weight-laid, entry-laid}
 use Rattle.requests.proofs.WithinLimits.{accepted-in, cells-in, edge-in, weight-small, entry-in}
 use Rattle.methods.specs.Method1 as Method1
 use Rattle.methods.specs.Method2 as Method2
-use Rattle.engine.specs.Run.{Lent, startOf, cellsLeft}
+use Rattle.engine.specs.Run.{Lent, lengthsOf, startOf, cellsLeft}
 use Rattle.engine.specs.Network.{edgeOf}
 use Rattle.engine.proofs.Intake.{long}
 use Rattle.engine.proofs.Table.{tableOf, natural, same-edges}
 use Rattle.engine.proofs.Left.{Left, left}
 
 module _ (request : List ℕ) (lent : Lent)
-    (w : WithinLimits request (length (lent .cells)) (length (lent .log)) (length (lent .distances)) (length (lent .parents))) where
+    (w : WithinLimits request (lengthsOf lent)) where
   abbrev h : Header
   h = headerIn request
 
@@ -31,14 +31,14 @@ module _ (request : List ℕ) (lent : Lent)
   ws = wordsIn request
 
   pub enough : cellsOf h ≤ length (lent .cells)
-  enough = cells-in _ _ _ _ _ w
+  enough = cells-in _ _ w
 
   source-below : h .source < h .vertices
   source-below = w .limits .source-there
 
   given1 : h .method ≡ 1 → Method1.Laid mostWeight (edgeOf ws) (h .vertices) (h .edges) (h .source) (startOf request lent)
   given1 e =
-      let edge = edge-in request _ _ _ _ w in
+      let edge = edge-in request _ w in
       record {
         enough = omega (arith, long request lent enough, cells-one h e, enough);
         from = from-laid h ws (lent .cells) e;
@@ -48,7 +48,7 @@ module _ (request : List ℕ) (lent : Lent)
             record {
               from-below = λ i l. edge i e l .from-there;
               to-below = λ i l. edge i e l .to-there;
-              weight-most = λ i l. weight-small request _ _ _ _ w i e l;
+              weight-most = λ i l. weight-small request _ w i e l;
             };
         source-below = source-below;
       }
@@ -56,7 +56,7 @@ module _ (request : List ℕ) (lent : Lent)
   entry : h .method ≡ 2 → (u j : ℕ) → u < h .vertices → j < h .vertices → EntryWithin (getD ws (u * h .vertices + j) 0)
   entry e u j p q =
       let n = h .vertices in
-      entry-in request _ _ _ _ w (u * n + j) e (digits-lt {q = u} {m = n} {r = j} {c = n} p q)
+      entry-in request _ w (u * n + j) e (digits-lt {q = u} {m = n} {r = j} {c = n} p q)
 
   given2 : h .method ≡ 2
       → Method2.Laid (natAbs far) mostWeight (tableOf (h .vertices) ws) (h .vertices) (h .source) (startOf request lent)
@@ -70,5 +70,5 @@ module _ (request : List ℕ) (lent : Lent)
 
   pub ends : Left h ws (startOf request lent) (cellsLeft request lent)
   ends =
-      left h (accepted-in _ _ _ _ _ w) ws (startOf request lent)
+      left h (accepted-in _ _ w) ws (startOf request lent)
       (record { one = given1; two = given2; same = λ e. same-edges (h .vertices) ws (entry e) })

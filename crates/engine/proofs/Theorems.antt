@@ -1,25 +1,28 @@
 -- The theorems: the demands of specs/Demands, for every request, foreign plan and lent buffer.
 -- Rests on everything below.
 use mathlib.Core.Path.{_≡_, refl, sym, _∙_}
-use mathlib.Core.Logic.{_⊎_, inl, inr}
+use mathlib.Core.Logic.{_⊎_, inl, inr, Iff·trans, Iff·symm, Iff·not}
 use mathlib.Core.List.{List, [], _∷_}
 use mathlib.Core.Option.{none}
-use Prim.Native.Nat.{ℕ}
+use Prim.Native.Nat.{ℕ, _+_, _*_}
 use native.Mathlib.Omega.{arith}
+use lib.Arith.{digits-lt}
 use lib.IntN.{ℤ}
 use lib.ListN.{length, getD}
 use Rattle.plans.specs.Limits.{far}
+use Rattle.plans.specs.Plan.{Kind, distances, parents}
 use Rattle.runner.proofs.PlanWithin.{within-plan}
 use Rattle.runner.proofs.Foreign.{refused-plan, told-plan, length-told, log-beyond, cells-long, cells-spared, replayed-plan, charge-plan, words-plan}
 use Rattle.requests.proofs.WithinLimits.{within}
-use Rattle.graph.proofs.Parents.{carried}
+use Rattle.graph.proofs.Parents.{distances-carried, parents-carried}
 use Rattle.requests.specs.WithinLimits.{headerIn, wordsIn}
 use Rattle.engine.specs.Run.{Lent, outcome}
-use Rattle.engine.specs.Network.{networkOf, namingOf}
-use Rattle.engine.specs.Demands.{Demand1, Demand2, Demand3a, Demand3, DemandPlan}
+use Rattle.engine.specs.Network.{networkOf, namingOf, sourcesOf}
+use Rattle.engine.specs.Demands.{RanOn, resultOf, Demand1, Demand2, OneSource, Demand3a, Demand3, DemandPlan}
 use Rattle.engine.proofs.Intake.{laid-cells, lent-cells}
 use Rattle.engine.proofs.Ran.{allowed, leaves, by-verdict, cells-are, rounds-are, verdict-is, log-told, log-published, length-figure, length-whole}
-use Rattle.engine.proofs.Copies.{distance-copied, parent-copied}
+use Rattle.engine.proofs.Sources.{only-source, first-row, single}
+use Rattle.engine.proofs.Copies.{result-copied}
 use Rattle.engine.proofs.Beyond.{beyond}
 use Rattle.engine.proofs.Told.{carried-out, planned, own-header, rounds-figure, same-logs}
 
@@ -28,7 +31,7 @@ pub demand1 : (request : List ℕ) (lent : Lent) → Demand1 request lent
 unfolding outcome
 demand1 request lent =
     record {
-      runs = within request _ _ _ _;
+      runs = within request _;
       refuses = λ r e. rw e;
       tells = λ ran.
           by-verdict request lent ran
@@ -38,8 +41,8 @@ demand1 request lent =
           (λ e. inl refl) (λ e. inr refl);
       no-results = λ ran.
           by-verdict request lent ran
-          (λ o. getD (o .answer .values) 2 0 ≡ 1 → (o .distances ≡ lent .distances) × (o .parents ≡ lent .parents))
-          (λ e t. absurd (omega arith)) (λ e t. (refl, refl));
+          (λ o. getD (o .answer .values) 2 0 ≡ 1 → (k : Kind) → o .results k ≡ lent .results k)
+          (λ e t. absurd (omega arith)) (λ e t k. refl);
       beyond = beyond request lent;
     }
 
@@ -51,10 +54,38 @@ demand2 request lent =
     record {
       cycle = λ ran. rw (verdict-is request lent ran) (leaves request lent ran .cycle);
       no-cycle = λ ran. rw (verdict-is request lent ran) (leaves request lent ran .no-cycle);
-      shortest = λ ran t.
-          carried (networkOf h ws) (namingOf h ws) far (h .vertices) (h .source) _ _ _ _ (leaves request lent ran .below)
-          (allowed request lent ran .source-there) (distance-copied request lent ran t) (parent-copied request lent ran t)
-          (leaves request lent ran .shortest (sym (verdict-is request lent ran) ∙ t));
+      rows = λ ran. leaves request lent ran .rows;
+      least-totals = λ ran t r l.
+          let left = leaves request lent ran in
+          distances-carried (networkOf h ws) far (h .vertices) (getD (sourcesOf h) r 0) _ _
+          (λ v below.
+          result-copied request lent ran t distances (r * h .vertices + v)
+          (rw (left .rows) (digits-lt {q = r} {m = length (sourcesOf h)} {r = v} {c = h .vertices} l below)))
+          (left .least-totals (sym (verdict-is request lent ran) ∙ t) r l);
+      parent-marks = λ ran t some.
+          let left = leaves request lent ran in
+          let (ds, ps) = left .parents-row some in
+          parents-carried (networkOf h ws) far (h .vertices) (h .source) _ _
+          (λ v l. result-copied request lent ran t distances v (omega arith)) (namingOf h ws) _ _ (left .below)
+          (allowed request lent ran .source-there) (λ v l. result-copied request lent ran t parents v (omega arith))
+          (left .parent-marks (sym (verdict-is request lent ran) ∙ t) some);
+    }
+
+-- In fewer words, where there is one source: methods 1 and 2.
+pub one-source : (request : List ℕ) (lent : Lent) → RanOn request lent → OneSource request lent
+one-source request lent ran =
+    let h = headerIn request in
+    let net = networkOf h (wordsIn request) in
+    let d = demand2 request lent in
+    let (sources, marked) = single h (allowed request lent ran) in
+    record {
+      cycle = Iff·trans (rw sources at (d .cycle ran)) (Iff·symm (only-source net (h .source)));
+      no-cycle = Iff·trans (rw sources at (d .no-cycle ran)) (Iff·symm (Iff·not (only-source net (h .source))));
+      shortest = λ t.
+          record {
+            distances = first-row net far (h .source) (h .vertices) (resultOf request lent distances) (rw sources at (d .least-totals ran t));
+            parents = d .parent-marks ran t marked;
+          };
     }
 
 -- Demand 3: what the log tells, of two runs and of one.
@@ -74,8 +105,7 @@ demand3 request lent =
       rounds-figure = rounds-figure request lent;
       laid-cells = λ ran. laid-cells request lent;
       lent-cells = λ ran. lent-cells request lent;
-      copied-distances = λ ran t v l. rw (cells-are request lent ran) (distance-copied request lent ran t v l);
-      copied-parents = λ ran t v l. rw (cells-are request lent ran) (parent-copied request lent ran t v l);
+      copied-results = λ ran t k i l. rw (cells-are request lent ran) (result-copied request lent ran t k i l);
       exact = λ ran. leaves request lent ran .exact;
     }
 

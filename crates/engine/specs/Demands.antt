@@ -4,7 +4,7 @@ use mathlib.Core.Path.{_≡_}
 use mathlib.Core.Logic.{_↔_, _⊎_, _≢_}
 use mathlib.Core.List.{List, [], _∷_, _++_}
 use mathlib.Core.Option.{none, some}
-use Prim.Native.Nat.{ℕ, _^_, _<_, _≤_}
+use Prim.Native.Nat.{ℕ, _+_, _*_, _^_, _<_, _≤_}
 use lib.IntN.{ℤ, pos}
 use lib.ListN.{length, getD, take, drop}
 use Rattle.answers.specs.declared.Refusal.{Refusal}
@@ -13,17 +13,17 @@ use Rattle.machine.specs.Instruction.{All}
 use Rattle.machine.specs.Effect.{cellAt}
 use Rattle.machine.specs.Log.{Spares, replay, withoutPublished, chargeOf}
 use Rattle.plans.specs.Limits.{far}
-use Rattle.plans.specs.Plan.{cellsOf, instructionsOf, planOf, verdictCell, published, roundsOfPlan}
+use Rattle.plans.specs.Plan.{cellsOf, instructionsOf, planOf, Kind, distances, parents, resultsOf, verdictCell, published, roundsOfPlan}
 use Rattle.runner.specs.Runner.{logSize, runnerRefusal, planOutcome, planRounds, planLength, planLog}
 use Rattle.runner.specs.PlanWithin.{PlanWithin}
 use Rattle.requests.specs.Refusal.{logLengthOf}
 use Rattle.requests.specs.WithinLimits.{headerIn, wordsIn, WithinLimits}
-use Rattle.requests.specs.Intake.{sourceOf, laid, distanceCell, parentCell}
+use Rattle.requests.specs.Intake.{sourceOf, laid}
 use Rattle.graph.specs.Walk.{NegativeCycle}
-use Rattle.graph.specs.Shortest.{Shortest}
+use Rattle.graph.specs.Shortest.{Distances, Parents, Shortest}
 use Rattle.methods.specs.Bank.{Exact}
-use Rattle.engine.specs.Run.{Lent, refusalOf, startOf, outcome}
-use Rattle.engine.specs.Network.{networkOf, namingOf}
+use Rattle.engine.specs.Run.{Lent, lengthsOf, refusalOf, startOf, outcome}
+use Rattle.engine.specs.Network.{networkOf, namingOf, sourcesOf, CycleFrom}
 
 -- A request ran when it met no refusal, or 12 alone; 12 is told after the run.
 abbrev pub RanOn : (request : List ℕ) → Lent → Type 0
@@ -51,19 +51,16 @@ pub record Beyond (request : List ℕ) (lent : Lent) : Type 0 where
       ≡ drop (cellsOf (headerIn request)) (lent .cells)
   pub log : drop (logLengthOf (headerIn request)) (outcome request lent .log)
       ≡ drop (logLengthOf (headerIn request)) (lent .log)
-  pub distances : drop (headerIn request .vertices) (outcome request lent .distances)
-      ≡ drop (headerIn request .vertices) (lent .distances)
-  pub parents : drop (headerIn request .vertices) (outcome request lent .parents)
-      ≡ drop (headerIn request .vertices) (lent .parents)
+  pub results : (k : Kind)
+      → drop (resultsOf (headerIn request) k .count) (outcome request lent .results k)
+      ≡ drop (resultsOf (headerIn request) k .count) (lent .results k)
 
 pub record Demand1 (request : List ℕ) (lent : Lent) : Type 0 where
   -- Every request within the limits is run to its end, and no other.
-  pub runs : RanOn request lent
-      ↔ WithinLimits request (length (lent .cells)) (length (lent .log)) (length (lent .distances)) (length (lent .parents))
+  pub runs : RanOn request lent ↔ WithinLimits request (lengthsOf lent)
   -- Every other gets its number and, where there is one, its place, and changes no lent buffer.
   pub refuses : (r : Refusal) → refusalOf request lent ≡ some r
-      → outcome request lent
-      ≡ record { answer = refused r; cells = lent .cells; log = lent .log; distances = lent .distances; parents = lent .parents }
+      → outcome request lent ≡ record { answer = refused r; cells = lent .cells; log = lent .log; results = lent .results }
   -- A run is told by 0 or, with verdict 1, by 12, with rounds, log length and verdict.
   pub tells : RanOn request lent
       → (outcome request lent .answer
@@ -72,23 +69,42 @@ pub record Demand1 (request : List ℕ) (lent : Lent) : Type 0 where
       ≡ record { number = 12; place = none; values = roundsTold request lent ∷ lengthTold request lent ∷ 1 ∷ [] })
   -- A negative cycle leaves cells and log, and no results.
   pub no-results : RanOn request lent → verdictTold request lent ≡ 1
-      → (outcome request lent .distances ≡ lent .distances) × (outcome request lent .parents ≡ lent .parents)
+      → (k : Kind) → outcome request lent .results k ≡ lent .results k
   pub beyond : RanOn request lent → Beyond request lent
 
 -- ---- demand 2: least walks
 
+-- Number i of the results of a kind.
+abbrev pub resultOf : (request : List ℕ) → Lent → Kind → (i : ℕ) → ℤ
+resultOf request lent k i = getD (outcome request lent .results k) i (pos 0)
+
+-- Methods 1 and 2 have one source, the header's; a method may have more, with a row of distances for each, and may give no parents.
 pub record Demand2 (request : List ℕ) (lent : Lent) : Type 0 where
   pub cycle : RanOn request lent
       → (verdictTold request lent ≡ 1)
-      ↔ NegativeCycle (networkOf (headerIn request) (wordsIn request)) (headerIn request .source)
+      ↔ CycleFrom (networkOf (headerIn request) (wordsIn request)) (sourcesOf (headerIn request))
   pub no-cycle : RanOn request lent
       → (verdictTold request lent ≡ 0)
+      ↔ ¬ CycleFrom (networkOf (headerIn request) (wordsIn request)) (sourcesOf (headerIn request))
+  -- The distances given are a row for each source: least totals over all walks from it, FAR exactly where none leads.
+  pub rows : RanOn request lent
+      → resultsOf (headerIn request) distances .count ≡ length (sourcesOf (headerIn request)) * headerIn request .vertices
+  pub least-totals : RanOn request lent → verdictTold request lent ≡ 0 → (r : ℕ) → r < length (sourcesOf (headerIn request))
+      → Distances (networkOf (headerIn request) (wordsIn request)) far (headerIn request .vertices) (getD (sourcesOf (headerIn request)) r 0)
+      (λ v. resultOf request lent distances (r * headerIn request .vertices + v))
+  -- The parents, where a method gives them: last steps of least walks from the header's source, that lead back to it.
+  pub parent-marks : RanOn request lent → verdictTold request lent ≡ 0 → resultsOf (headerIn request) parents .count ≢ 0
+      → Parents (networkOf (headerIn request) (wordsIn request)) (namingOf (headerIn request) (wordsIn request)) far
+      (headerIn request .vertices) (headerIn request .source) (resultOf request lent distances) (resultOf request lent parents)
+
+-- Of a method with one source that gives parents, in fewer words: both methods are such.
+pub record OneSource (request : List ℕ) (lent : Lent) : Type 0 where
+  pub cycle : (verdictTold request lent ≡ 1) ↔ NegativeCycle (networkOf (headerIn request) (wordsIn request)) (headerIn request .source)
+  pub no-cycle : (verdictTold request lent ≡ 0)
       ↔ ¬ NegativeCycle (networkOf (headerIn request) (wordsIn request)) (headerIn request .source)
-  -- Of the results buffers: least totals over all walks, FAR exactly where none leads, parents on least walks that lead back to the source.
-  pub shortest : RanOn request lent → verdictTold request lent ≡ 0
+  pub shortest : verdictTold request lent ≡ 0
       → Shortest (networkOf (headerIn request) (wordsIn request)) (namingOf (headerIn request) (wordsIn request)) far
-      (headerIn request .vertices) (headerIn request .source)
-      (λ v. getD (outcome request lent .distances) v (pos 0)) (λ v. getD (outcome request lent .parents) v (pos 0))
+      (headerIn request .vertices) (headerIn request .source) (resultOf request lent distances) (resultOf request lent parents)
 
 -- ---- demand 3: what the log tells
 
@@ -124,10 +140,8 @@ pub record Demand3 (request : List ℕ) (lent : Lent) : Type 0 where
       → cellAt (startOf request lent) k ≡ laid (wordsIn request) (sourceOf (headerIn request) k)
   pub lent-cells : RanOn request lent → (k : ℕ) → cellsOf (headerIn request) ≤ k
       → cellAt (startOf request lent) k ≡ cellAt (lent .cells) k
-  pub copied-distances : RanOn request lent → verdictTold request lent ≡ 0 → (v : ℕ) → v < headerIn request .vertices
-      → getD (outcome request lent .distances) v (pos 0) ≡ cellAt (outcome request lent .cells) (distanceCell (headerIn request) v)
-  pub copied-parents : RanOn request lent → verdictTold request lent ≡ 0 → (v : ℕ) → v < headerIn request .vertices
-      → getD (outcome request lent .parents) v (pos 0) ≡ cellAt (outcome request lent .cells) (parentCell (headerIn request) v)
+  pub copied-results : RanOn request lent → verdictTold request lent ≡ 0 → (k : Kind) (i : ℕ) → i < resultsOf (headerIn request) k .count
+      → resultOf request lent k i ≡ cellAt (outcome request lent .cells) (resultsOf (headerIn request) k .first + i)
   -- (e) Every ADD that is carried out gives the exact sum.
   pub exact : RanOn request lent → Exact (instructionsOf (headerIn request)) (startOf request lent)
 

@@ -1,15 +1,15 @@
--- The network that a request describes (document 01, "Yards, lanes and totals" and "Request words"), by its words alone: neither intake nor FAR is named.
--- Rests on request words and on graph.
+-- The network that a request describes (document 01, "Yards, lanes and totals" and "Request words"), by its words alone: neither intake nor FAR
+-- is named; and what its results speak of. Rests on request words and on graph.
 use mathlib.Core.Path.{_≡_}
 use mathlib.Core.Logic.{_≢_}
 use mathlib.Core.List.{List, [], _∷_}
 use Prim.Native.Nat.{ℕ, _+_, _*_, _<_}
 use lib.IntN.{negsuc}
-use lib.ListN.{getD}
+use lib.ListN.{length, getD}
 use Rattle.plans.specs.declared.Header.{Header}
 use Rattle.plans.specs.Limits.{byMethod}
 use Rattle.requests.specs.Word.{fromField, toField, weightOf}
-use Rattle.graph.specs.Walk.{Edge, Network}
+use Rattle.graph.specs.Walk.{Edge, Network, NegativeCycle}
 use Rattle.graph.specs.Shortest.{Naming}
 use Rattle.graph.specs.BellmanFord.{network, numbered}
 use Rattle.graph.specs.Dijkstra.{fromVertex}
@@ -31,3 +31,13 @@ networkOf h ws = byMethod (h .method) (λ e. ⊥) (network (edgeOf ws) (h .edges
 -- What a parent mark names: in method 1 an edge by its number, in method 2 an edge by its from-vertex.
 unfoldable pub namingOf : Header → (words : List ℕ) → Naming
 namingOf h ws = byMethod (h .method) (λ k e. ⊥) (numbered (edgeOf ws) (h .edges) ∷ fromVertex ∷ [])
+
+-- The sources that a method's distances are from, in order: a row of n distances for each.
+unfoldable pub sourcesOf : Header → List ℕ
+sourcesOf h = byMethod (h .method) [] ((h .source ∷ []) ∷ (h .source ∷ []) ∷ [])
+
+-- A walk from one of them leads onto a closed walk of negative total.
+pub record CycleFrom (net : Network) (sources : List ℕ) : Type 0 where
+  pub row : ℕ
+  pub there : row < length sources
+  pub cycle : NegativeCycle net (getD sources row 0)

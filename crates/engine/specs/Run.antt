@@ -3,19 +3,20 @@ use mathlib.Core.Path.{_≡_}
 use mathlib.Core.Bool.{cond}
 use mathlib.Core.List.{List, [], _∷_}
 use mathlib.Core.Option.{Option, none, some}
-use Prim.Native.Nat.{ℕ, zero, suc}
+use Prim.Native.Nat.{ℕ, zero, suc, _+_, _<_}
 use lib.IntN.{ℤ}
 use lib.ListN.{length, drop}
 use Rattle.fields.specs.Fields.{bitsOf}
 use Rattle.machine.specs.Effect.{isZero, cellAt}
 use Rattle.machine.specs.Log.{cellsAfter, logOf, chargeOf}
 use Rattle.plans.specs.declared.Header.{Header}
-use Rattle.plans.specs.Plan.{planOf, verdictCell}
+use Rattle.plans.specs.Plan.{planOf, verdictCell, Kind, distances, parents, resultsOf}
 use Rattle.answers.specs.declared.Refusal.{Refusal}
 use Rattle.answers.specs.Told.{Told, refused}
 use Rattle.answers.specs.Buffers.{overwritten}
+use Rattle.requests.specs.declared.Lengths.{Lengths}
 use Rattle.requests.specs.Refusal.{requestRefusal}
-use Rattle.requests.specs.Intake.{copied, startingCells, distanceCell, parentCell}
+use Rattle.requests.specs.Intake.{copied, startingCells}
 use Rattle.requests.specs.WithinLimits.{headerIn, wordsIn}
 use Rattle.engine.specs.declared.Report.{Report}
 use Rattle.engine.specs.declared.Answer.{Answer}
@@ -35,15 +36,23 @@ toldByRun (Refused r) = refused r
 
 -- ---- the request and what is lent
 
+-- Cells, a log, and a buffer for each kind of results.
 pub record Lent : Type 0 where
   pub cells : List ℤ
   pub log : List ℕ
-  pub distances : List ℤ
-  pub parents : List ℤ
+  pub results : Kind → List ℤ
+
+abbrev pub lengthsOf : Lent → Lengths
+lengthsOf lent =
+    record {
+      cells = length (lent .cells);
+      log = length (lent .log);
+      distances = length (lent .results distances);
+      parents = length (lent .results parents);
+    }
 
 abbrev pub refusalOf : (request : List ℕ) → Lent → Option Refusal
-refusalOf request lent =
-    requestRefusal request (length (lent .cells)) (length (lent .log)) (length (lent .distances)) (length (lent .parents))
+refusalOf request lent = requestRefusal request (lengthsOf lent)
 
 -- ---- the run
 
@@ -55,6 +64,11 @@ verdictAt (some cell) left = cond (isZero (cellAt left cell)) 0 1
 abbrev pub openedAt : Option ℕ → (left : List ℤ) → List ℕ
 openedAt none left = []
 openedAt (some cell) left = bitsOf 64 (cellAt left cell) ∷ []
+
+-- The cell, where there is one, is among the first `count`.
+abbrev pub There : Option ℕ → (count : ℕ) → Type 0
+There none count = Unit {0}
+There (some cell) count = cell < count
 
 unfoldable pub verdictOf : Header → List ℤ → ℕ
 verdictOf h left = verdictAt (verdictCell h) left
@@ -73,14 +87,13 @@ module _ (request : List ℕ) (lent : Lent) where
   abbrev pub verdictOfRun : ℕ
   verdictOfRun = verdictOf (headerIn request) cellsLeft
 
--- ---- the outcome: the answer and the four buffers
+-- ---- the outcome: the answer and the lent buffers
 
 pub record Outcome : Type 0 where
   pub answer : Told
   pub cells : List ℤ
   pub log : List ℕ
-  pub distances : List ℤ
-  pub parents : List ℤ
+  pub results : Kind → List ℤ
 
 -- By the verdict: with none the results are copies of cells at places that the header fixes; with a negative cycle there are none, and 12.
 abbrev pub ranBy : (verdict : ℕ) (request : List ℕ) → Lent → Outcome
@@ -89,35 +102,29 @@ ranBy zero request lent =
       answer = record { number = 0; place = none; values = chargeOf (logOfRun request lent) ∷ length (logOfRun request lent) ∷ 0 ∷ [] };
       cells = cellsLeft request lent;
       log = overwritten (logOfRun request lent) (lent .log);
-      distances =
-          copied (headerIn request .vertices)
-          (λ v. cellAt (cellsLeft request lent) (distanceCell (headerIn request) v)) (lent .distances);
-      parents =
-          copied (headerIn request .vertices)
-          (λ v. cellAt (cellsLeft request lent) (parentCell (headerIn request) v)) (lent .parents);
+      results = λ k.
+          copied (resultsOf (headerIn request) k .count)
+          (λ i. cellAt (cellsLeft request lent) (resultsOf (headerIn request) k .first + i)) (lent .results k);
     }
 ranBy (suc more) request lent =
     record {
       answer = record { number = 12; place = none; values = chargeOf (logOfRun request lent) ∷ length (logOfRun request lent) ∷ 1 ∷ [] };
       cells = cellsLeft request lent;
       log = overwritten (logOfRun request lent) (lent .log);
-      distances = lent .distances;
-      parents = lent .parents;
+      results = lent .results;
     }
 
 -- By the refusal met: none but 12 changes a buffer.
 abbrev pub outcomeBy : Option Refusal → (request : List ℕ) → Lent → Outcome
 outcomeBy none request lent = ranBy (verdictOfRun request lent) request lent
-outcomeBy (some r) request lent =
-    record { answer = refused r; cells = lent .cells; log = lent .log; distances = lent .distances; parents = lent .parents }
+outcomeBy (some r) request lent = record { answer = refused r; cells = lent .cells; log = lent .log; results = lent .results }
 
 unfoldable pub outcome : (request : List ℕ) → Lent → Outcome
 outcome request lent = outcomeBy (refusalOf request lent) request lent
 
--- The answer and the four buffers are the outcome's.
-pub record Met (o : Outcome) (answer : Answer) (cells : List ℤ) (log : List ℕ) (distances parents : List ℤ) : Type 0 where
+-- The answer and the lent buffers are the outcome's.
+pub record Met (o : Outcome) (answer : Answer) (cells : List ℤ) (log : List ℕ) (results : Kind → List ℤ) : Type 0 where
   pub answers : toldByRun answer ≡ o .answer
   pub cells-left : cells ≡ o .cells
   pub log-left : log ≡ o .log
-  pub distances-left : distances ≡ o .distances
-  pub parents-left : parents ≡ o .parents
+  pub results-left : (k : Kind) → results k ≡ o .results k

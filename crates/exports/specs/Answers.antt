@@ -7,6 +7,7 @@ use Prim.Native.Nat.{ℕ}
 use lib.IntN.{ℤ}
 use lib.ListN.{length, getD}
 use Rattle.answers.specs.Told.{Told}
+use Rattle.plans.specs.Plan.{Kind}
 use Rattle.planner.specs.Written.{planRefusal, planWords, answerOf, bufferOf}
 use Rattle.runner.specs.Runner.{PlanOutcome}
 use Rattle.engine.specs.Run.{Outcome}
@@ -16,17 +17,17 @@ abbrev pub placeNumbers : Option ℕ → (rest : List ℕ) → List ℕ
 placeNumbers none rest = 0 ∷ 0 ∷ rest
 placeNumbers (some place) rest = 1 ∷ place ∷ rest
 
--- Six numbers: the refusal's, 0 where there is none; the place; and up to three values, 0 where there is none.
+-- Seven numbers: the refusal's, 0 where there is none; the place; and up to four values, 0 where there is none.
 abbrev pub numbersOf : Told → List ℕ
 numbersOf t =
-    t .number ∷ placeNumbers (t .place) (getD (t .values) 0 0 ∷ getD (t .values) 1 0 ∷ getD (t .values) 2 0 ∷ [])
+    t .number
+    ∷ placeNumbers (t .place) (getD (t .values) 0 0 ∷ getD (t .values) 1 0 ∷ getD (t .values) 2 0 ∷ getD (t .values) 3 0 ∷ [])
 
-pub record LeftByRun (o : Outcome) (answer : List ℕ) (cells : List ℤ) (log : List ℕ) (distances parents : List ℤ) : Type 0 where
+pub record LeftByRun (o : Outcome) (answer : List ℕ) (cells : List ℤ) (log : List ℕ) (results : Kind → List ℤ) : Type 0 where
   pub answers : answer ≡ numbersOf (o .answer)
   pub cells-left : cells ≡ o .cells
   pub log-left : log ≡ o .log
-  pub distances-left : distances ≡ o .distances
-  pub parents-left : parents ≡ o .parents
+  pub results-left : (k : Kind) → results k ≡ o .results k
 
 pub record LeftByPlan (o : PlanOutcome) (answer : List ℕ) (cells : List ℤ) (log : List ℕ) : Type 0 where
   pub answers : answer ≡ numbersOf (o .answer)

@@ -1,4 +1,4 @@
-// The engine for programs in other languages: four calls on plain numbers, with the answer as six numbers (docs/CALLING.md).
+// The engine for programs in other languages: four calls on plain numbers, with the answer as seven numbers (docs/CALLING.md).
 // Rests on answers, engine, requests, runner and planner.
 use answers::Refusal;
 use engine::Answer;
@@ -7,54 +7,63 @@ use requests::Asked;
 use runner::PlanAnswer;
 ghost use mathlib.Core.Path.{_≡_};
 ghost use Rattle.answers.specs.Told.{refused};
+ghost use Rattle.plans.specs.Plan.{byKind};
 ghost use Rattle.planner.specs.Written.{toldByWriting};
 ghost use Rattle.requests.specs.Sizes.{toldBySizes, sizesTold};
 ghost use Rattle.runner.specs.Runner.{toldByPlan, planOutcome};
 ghost use Rattle.engine.specs.Run.{toldByRun, outcome};
 ghost use Rattle.exports.specs.Answers.{numbersOf, LeftByRun, LeftByPlan, LeftByWriting};
 
-fn refusal_numbers(r: Refusal) -> [u64; 6]
+fn refusal_numbers(r: Refusal) -> [u64; 7]
     ensures { λ a. ⌜ a ≡ numbersOf (refused r) ⌝ }
 {
     if r.placed {
-        return [r.number, 1, r.place as u64, 0, 0, 0];
+        return [r.number, 1, r.place as u64, 0, 0, 0, 0];
     }
-    [r.number, 0, 0, 0, 0, 0]
+    [r.number, 0, 0, 0, 0, 0, 0]
 }
 
-fn run_numbers(answer: Answer) -> [u64; 6]
+fn run_numbers(answer: Answer) -> [u64; 7]
     ensures { λ a. ⌜ a ≡ numbersOf (toldByRun answer) ⌝ }
 {
     match answer {
-        Answer::Ran(r) => [0, 0, 0, r.rounds, r.log_length as u64, r.verdict],
-        Answer::NegativeCycle(r) => [12, 0, 0, r.rounds, r.log_length as u64, r.verdict],
+        Answer::Ran(r) => [0, 0, 0, r.rounds, r.log_length as u64, r.verdict, 0],
+        Answer::NegativeCycle(r) => [12, 0, 0, r.rounds, r.log_length as u64, r.verdict, 0],
         Answer::Refused(refusal) => refusal_numbers(refusal),
     }
 }
 
-fn plan_numbers(answer: PlanAnswer) -> [u64; 6]
+fn plan_numbers(answer: PlanAnswer) -> [u64; 7]
     ensures { λ a. ⌜ a ≡ numbersOf (toldByPlan answer) ⌝ }
 {
     match answer {
-        PlanAnswer::Ran(t) => [0, 0, 0, t.rounds, t.length as u64, 0],
+        PlanAnswer::Ran(t) => [0, 0, 0, t.rounds, t.length as u64, 0, 0],
         PlanAnswer::Refused(refusal) => refusal_numbers(refusal),
     }
 }
 
-fn written_numbers(answer: Written) -> [u64; 6]
+fn written_numbers(answer: Written) -> [u64; 7]
     ensures { λ a. ⌜ a ≡ numbersOf (toldByWriting answer) ⌝ }
 {
     match answer {
-        Written::Length(size) => [0, 0, 0, size as u64, 0, 0],
+        Written::Length(size) => [0, 0, 0, size as u64, 0, 0, 0],
         Written::Refused(refusal) => refusal_numbers(refusal),
     }
 }
 
-fn sizes_numbers(answer: Asked) -> [u64; 6]
+fn sizes_numbers(answer: Asked) -> [u64; 7]
     ensures { λ a. ⌜ a ≡ numbersOf (toldBySizes answer) ⌝ }
 {
     match answer {
-        Asked::Needs(s) => [0, 0, 0, s.cells as u64, s.log as u64, s.results as u64],
+        Asked::Needs(s) => [
+            0,
+            0,
+            0,
+            s.cells as u64,
+            s.log as u64,
+            s.distances as u64,
+            s.parents as u64,
+        ],
         Asked::Refused(refusal) => refusal_numbers(refusal),
     }
 }
@@ -67,9 +76,9 @@ pub extern "C" fn vukstaja_run(
     log: &mut [u64],
     distances: &mut [i64],
     parents: &mut [i64],
-    answer: &mut [u64; 6],
+    answer: &mut [u64; 7],
 )
-    ensures { λ _. ⌜ LeftByRun (outcome (now (request .entry)) (record { cells = now (cells .entry); log = now (log .entry); distances = now (distances .entry); parents = now (parents .entry) })) (now (answer .exit)) (now (cells .exit)) (now (log .exit)) (now (distances .exit)) (now (parents .exit)) ⌝ }
+    ensures { λ _. ⌜ LeftByRun (outcome (now (request .entry)) (record { cells = now (cells .entry); log = now (log .entry); results = byKind (now (distances .entry)) (now (parents .entry)) })) (now (answer .exit)) (now (cells .exit)) (now (log .exit)) (byKind (now (distances .exit)) (now (parents .exit))) ⌝ }
 {
     *answer = run_numbers(engine::run(request, cells, log, distances, parents));
 }
@@ -80,7 +89,7 @@ pub extern "C" fn vukstaja_run_plan(
     plan: &[u64],
     cells: &mut [i64],
     log: &mut [u64],
-    answer: &mut [u64; 6],
+    answer: &mut [u64; 7],
 )
     ensures { λ _. ⌜ LeftByPlan (planOutcome (now (plan .entry)) (now (cells .entry)) (now (log .entry))) (now (answer .exit)) (now (cells .exit)) (now (log .exit)) ⌝ }
 {
@@ -89,7 +98,7 @@ pub extern "C" fn vukstaja_run_plan(
 
 // The plan of a header written.
 #[no_mangle]
-pub extern "C" fn vukstaja_write_plan(header: &[u64], plan: &mut [u64], answer: &mut [u64; 6])
+pub extern "C" fn vukstaja_write_plan(header: &[u64], plan: &mut [u64], answer: &mut [u64; 7])
     ensures { λ _. ⌜ LeftByWriting (now (header .entry)) (now (plan .entry)) (now (answer .exit)) (now (plan .exit)) ⌝ }
 {
     *answer = written_numbers(planner::write_plan(header, plan));
@@ -97,7 +106,7 @@ pub extern "C" fn vukstaja_write_plan(header: &[u64], plan: &mut [u64], answer: 
 
 // What a header asks a caller to lend.
 #[no_mangle]
-pub extern "C" fn vukstaja_sizes(header: &[u64], answer: &mut [u64; 6])
+pub extern "C" fn vukstaja_sizes(header: &[u64], answer: &mut [u64; 7])
     ensures { λ _. ⌜ now (answer .exit) ≡ numbersOf (sizesTold (now (header .entry))) ⌝ }
 {
     *answer = sizes_numbers(requests::sizes_needed(header));

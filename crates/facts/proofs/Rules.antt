@@ -1,5 +1,5 @@
 -- The table of specs/Rules: the crates' tables, and the rows about outcomes by computing the definitions. Rests on those tables.
-use mathlib.Core.Path.{refl}
+use mathlib.Core.Path.{_≡_, refl, fun-ext}
 use Rattle.fields.specs.Fields.{signedOf, bitsOf}
 use Rattle.answers.proofs.Facts as Answers
 use Rattle.machine.specs.Effect.{bit, wrapAdd, both, pick, perform}
@@ -9,21 +9,27 @@ use Rattle.machine.proofs.Facts as Machine
 use Rattle.plans.specs.Blocks.{flat}
 use Rattle.plans.specs.Outline.{instructions}
 use Rattle.plans.specs.Method1 as Method1
-use Rattle.plans.specs.Plan.{instructionsOf, planOf, cellsOf, lengthOf, verdictCell}
+use Rattle.plans.specs.Plan.{Kind, instructionsOf, planOf, wordCountOf, cellsOf, resultsOf, lengthOf, verdictCell}
+use Rattle.plans.proofs.EachKind.{each-kind}
 use Rattle.plans.proofs.Facts as Plans
 use Rattle.planner.specs.Refusal.{headerRefusal}
 use Rattle.planner.proofs.Facts as Planner
 use Rattle.requests.specs.Word.{weightOf}
-use Rattle.requests.specs.Refusal.{wordCountOf, logLengthOf, sizesRefusal, shapeGood, weightGood, wordRefusal, wordsRefusal, requestRefusal}
-use Rattle.requests.specs.Intake.{sourceOf, laid, copied, startingCells, distanceCell, parentCell}
+use Rattle.requests.specs.Refusal.{logLengthOf, sizesRefusal, shapeGood, weightGood, wordRefusal, wordsRefusal, requestRefusal}
+use Rattle.requests.specs.Intake.{stripsOf, sourceOf, laid, copied, startingCells}
 use Rattle.requests.proofs.Facts as Requests
 use Rattle.runner.specs.Runner.{firstBad, logSize, runnerRefusal, planOutcome}
 use Rattle.runner.proofs.Facts as Runner
-use Rattle.engine.specs.Run.{verdictOf, outcome}
+use Rattle.engine.specs.Run.{Outcome, verdictOf, outcome}
+use Rattle.engine.specs.Network.{sourcesOf}
 use Rattle.facts.specs.Rules.{Rules}
 
+-- Outcomes are the same where their parts are.
+same : (o p : Outcome) → o .answer ≡ p .answer → o .cells ≡ p .cells → o .log ≡ p .log → ((k : Kind) → o .results k ≡ p .results k) → o ≡ p
+same o p a c l r = λ i. record { answer = a i; cells = c i; log = l i; results = fun-ext r i }
+
 pub rules : Rules
-unfolding signedOf bitsOf bit wrapAdd both pick perform packed packedSet decodeAt zerosKept present admissibleAt carry logged cellsAfter logFrom logOf withoutPublishedFrom withoutPublished roundsOf sumOf chargeOf flat instructions Method1.plan instructionsOf planOf cellsOf lengthOf headerRefusal weightOf wordCountOf logLengthOf verdictCell sizesRefusal shapeGood weightGood wordRefusal wordsRefusal requestRefusal sourceOf laid copied startingCells distanceCell parentCell firstBad logSize runnerRefusal planOutcome verdictOf outcome
+unfolding signedOf bitsOf bit wrapAdd both pick perform packed packedSet decodeAt zerosKept present admissibleAt carry logged cellsAfter logFrom logOf withoutPublishedFrom withoutPublished roundsOf sumOf chargeOf flat instructions Method1.plan instructionsOf planOf cellsOf resultsOf lengthOf headerRefusal weightOf wordCountOf logLengthOf verdictCell sizesRefusal shapeGood weightGood wordRefusal wordsRefusal requestRefusal stripsOf sourceOf laid copied startingCells firstBad logSize runnerRefusal planOutcome verdictOf outcome sourcesOf
 rules =
     record {
       answers = Answers.facts;
@@ -45,5 +51,6 @@ rules =
       eleven = refl;
       twelve = (refl, refl, refl);
       refuses = refl;
-      untouched = refl;
+      untouched = same _ _ refl refl refl (each-kind _ refl refl);
+      sources = (refl, refl);
     }

@@ -1,7 +1,7 @@
 -- Document 01, "Requests at the edges": the eleven rows, in its order, about the outcomes of runs and the words of plans.
 -- Rests on engine.
 use mathlib.Core.Path.{_≡_}
-use mathlib.Core.List.{List, [], _∷_, _++_}
+use mathlib.Core.List.{[], _∷_, _++_}
 use mathlib.Core.Option.{none, some}
 use Prim.Native.Nat.{ℕ, _-_, _^_}
 use lib.IntN.{pos, negsuc}
@@ -10,34 +10,17 @@ use Rattle.answers.specs.Told.{Told}
 use Rattle.machine.specs.Word.{packed}
 use Rattle.machine.specs.Log.{carried}
 use Rattle.plans.specs.Limits.{far}
-use Rattle.plans.specs.Plan.{headerOf, planOf}
+use Rattle.plans.specs.Plan.{headerOf, planOf, distances, parents}
+use Rattle.planner.specs.Facts.{smallestPlan}
 use Rattle.engine.specs.Run.{Lent, Outcome, outcome}
 
--- Buffers lent with zeros: cells, log words, results.
+-- Buffers lent with zeros: cells, log words, and places of each results buffer.
 abbrev pub zeros : (cells log results : ℕ) → Lent
-zeros cells log results =
-    record {
-      cells = replicate cells (pos 0);
-      log = replicate log 0;
-      distances = replicate results (pos 0);
-      parents = replicate results (pos 0);
-    }
+zeros cells log results = record { cells = replicate cells (pos 0); log = replicate log 0; results = λ k. replicate results (pos 0) }
 
 -- A run told by its rounds, log length and verdict; a refusal by its number and place.
 abbrev pub ran : (rounds size : ℕ) → Told
 ran rounds size = record { number = 0; place = none; values = rounds ∷ size ∷ 0 ∷ [] }
-
--- Method 1, n = 1, m = 0.
-abbrev pub plan1 : List ℕ
-plan1 =
-    0x1000010000000000
-    ∷ 0x0000020000000000
-    ∷ 0x0000000000000000
-    ∷ 0x000001FFFFFFFFFF
-    ∷ 0x0000034000000000
-    ∷ 0x00000A0000000000
-    ∷ 0x7000000000A00000
-    ∷ []
 
 -- Method 1, n = 1, an edge from 0 to 0 of the given 32 bits of weight, on 14 cells and 18 log words.
 abbrev pub loopOf : (bits : ℕ) → Outcome
@@ -45,26 +28,26 @@ loopOf bits = outcome (0x1000010000100000 ∷ bits ∷ []) (zeros 14 18 1)
 
 pub record Corners : Type 0 where
   -- 1. The whole plan; the log adds a zero word; 6 rounds.
-  pub smallest : (planOf (headerOf 0x1000010000000000) ≡ plan1)
-      × (outcome (0x1000010000000000 ∷ []) (zeros 11 8 1) .log ≡ plan1 ++ (0 ∷ []))
+  pub smallest : (planOf (headerOf 0x1000010000000000) ≡ smallestPlan)
+      × (outcome (0x1000010000000000 ∷ []) (zeros 11 8 1) .log ≡ smallestPlan ++ (0 ∷ []))
       × (outcome (0x1000010000000000 ∷ []) (zeros 11 8 1) .answer ≡ ran 6 8)
   -- 2. The printed request: 112 rounds, distances 0 and -5, parents none and edge 0.
   pub printed : (outcome (0x1000020000100000 ∷ 0x00010000FFFFFFFB ∷ []) (zeros 17 48 2) .answer ≡ ran 112 48)
-      × (outcome (0x1000020000100000 ∷ 0x00010000FFFFFFFB ∷ []) (zeros 17 48 2) .distances ≡ pos 0 ∷ negsuc 4 ∷ [])
-      × (outcome (0x1000020000100000 ∷ 0x00010000FFFFFFFB ∷ []) (zeros 17 48 2) .parents ≡ negsuc 0 ∷ pos 0 ∷ [])
+      × (outcome (0x1000020000100000 ∷ 0x00010000FFFFFFFB ∷ []) (zeros 17 48 2) .results distances ≡ pos 0 ∷ negsuc 4 ∷ [])
+      × (outcome (0x1000020000100000 ∷ 0x00010000FFFFFFFB ∷ []) (zeros 17 48 2) .results parents ≡ negsuc 0 ∷ pos 0 ∷ [])
   -- 3. A loop of weight -1 is 12; of weight 0 it runs.
   pub loops : (loopOf 0xFFFFFFFF .answer .number ≡ 12) × (loopOf 0 .answer .number ≡ 0)
   -- 4. Two edges from 0 to 1 at 4 and 4: distance 4, parent 0.
-  pub ties : (outcome (0x1000020000200000 ∷ 0x0001000000000004 ∷ 0x0001000000000004 ∷ []) (zeros 20 85 2) .distances ≡ pos 0 ∷ pos 4 ∷ [])
-      × (outcome (0x1000020000200000 ∷ 0x0001000000000004 ∷ 0x0001000000000004 ∷ []) (zeros 20 85 2) .parents ≡ negsuc 0 ∷ pos 0 ∷ [])
+  pub ties : (outcome (0x1000020000200000 ∷ 0x0001000000000004 ∷ 0x0001000000000004 ∷ []) (zeros 20 85 2) .results distances ≡ pos 0 ∷ pos 4 ∷ [])
+      × (outcome (0x1000020000200000 ∷ 0x0001000000000004 ∷ 0x0001000000000004 ∷ []) (zeros 20 85 2) .results parents ≡ negsuc 0 ∷ pos 0 ∷ [])
   -- 5. A negative cycle that the source does not reach: verdict 0, vertices 1 and 2 unreached.
   pub elsewhere :
       (outcome (0x1000030000200000 ∷ 0x01020000FFFFFFFF ∷ 0x02010000FFFFFFFF ∷ []) (zeros 23 174 3) .answer ≡ ran 460 174)
-      × (outcome (0x1000030000200000 ∷ 0x01020000FFFFFFFF ∷ 0x02010000FFFFFFFF ∷ []) (zeros 23 174 3) .distances
+      × (outcome (0x1000030000200000 ∷ 0x01020000FFFFFFFF ∷ 0x02010000FFFFFFFF ∷ []) (zeros 23 174 3) .results distances
       ≡ pos 0 ∷ far ∷ far ∷ [])
   -- 6. Method 2, n = 2, no edges: distances 0 and FAR, 116 rounds.
   pub no-edges :
-      (outcome (0x2000020000000000 ∷ 0xFFFFFFFF ∷ 0xFFFFFFFF ∷ 0xFFFFFFFF ∷ 0xFFFFFFFF ∷ []) (zeros 20 67 2) .distances
+      (outcome (0x2000020000000000 ∷ 0xFFFFFFFF ∷ 0xFFFFFFFF ∷ 0xFFFFFFFF ∷ 0xFFFFFFFF ∷ []) (zeros 20 67 2) .results distances
       ≡ pos 0 ∷ far ∷ [])
       × (outcome (0x2000020000000000 ∷ 0xFFFFFFFF ∷ 0xFFFFFFFF ∷ 0xFFFFFFFF ∷ 0xFFFFFFFF ∷ []) (zeros 20 67 2) .answer ≡ ran 116 67)
   -- 7. Method 2, n = 1: 21 words, 32 rounds.

@@ -10,26 +10,24 @@ use Rattle.answers.specs.Told.{Told}
 use Rattle.answers.specs.Facts as Answers
 use Rattle.answers.specs.Facts.{byNumber, atPlace}
 use Rattle.machine.specs.Facts as Machine
+use Rattle.plans.specs.Plan.{headerOf, distances, parents, byKind}
 use Rattle.plans.specs.Facts as Plans
 use Rattle.planner.specs.Facts as Planner
+use Rattle.planner.specs.Facts.{smallestPlan}
 use Rattle.requests.specs.Facts as Requests
 use Rattle.runner.specs.Facts as Runner
 use Rattle.runner.specs.Runner.{planOutcome}
 use Rattle.engine.specs.Run.{Lent, outcome}
+use Rattle.engine.specs.Network.{sourcesOf}
 
 -- Buffers lent with nines: cells, log words, distances, parents.
 abbrev pub nines : (cells log distances parents : ℕ) → Lent
-nines cells log distances parents =
-    record {
-      cells = replicate cells (pos 9);
-      log = replicate log 9;
-      distances = replicate distances (pos 9);
-      parents = replicate parents (pos 9);
-    }
+nines cells log ds ps =
+    record { cells = replicate cells (pos 9); log = replicate log 9; results = byKind (replicate ds (pos 9)) (replicate ps (pos 9)) }
 
 -- What a request is answered with such buffers.
 abbrev pub requestAnswered : (request : List ℕ) (cells log distances parents : ℕ) → Told
-requestAnswered request cells log distances parents = outcome request (nines cells log distances parents) .answer
+requestAnswered request cells log ds ps = outcome request (nines cells log ds ps) .answer
 
 pub record Rules : Type 0 where
   -- "Who caused it": numbers and places
@@ -68,33 +66,23 @@ pub record Rules : Type 0 where
   pub eleven : requestAnswered (0x1000020000100000 ∷ 0x00000000FFF0BDBF ∷ []) 17 48 2 2 ≡ atPlace 11 0
   -- "12: loss circle", a lane from 0 to 0 at -1. "A request's run, 12 included, answers its rounds, log length and verdict"; without results.
   pub twelve : (requestAnswered (0x1000010000100000 ∷ 0x00000000FFFFFFFF ∷ []) 14 18 1 1 ≡ record { number = 12; place = none; values = 34 ∷ 18 ∷ 1 ∷ [] })
-      × (outcome (0x1000010000100000 ∷ 0x00000000FFFFFFFF ∷ []) (nines 14 18 1 1) .distances ≡ pos 9 ∷ [])
-      × (outcome (0x1000010000100000 ∷ 0x00000000FFFFFFFF ∷ []) (nines 14 18 1 1) .parents ≡ pos 9 ∷ [])
+      × (outcome (0x1000010000100000 ∷ 0x00000000FFFFFFFF ∷ []) (nines 14 18 1 1) .results distances ≡ pos 9 ∷ [])
+      × (outcome (0x1000010000100000 ∷ 0x00000000FFFFFFFF ∷ []) (nines 14 18 1 1) .results parents ≡ pos 9 ∷ [])
   -- "any other refusal only its number and, for 9 to 11, its place, and changes no lent buffer"
   pub refuses : outcome (0x1000010000100000 ∷ 0x00000000FFF0BDBF ∷ []) (nines 14 18 1 1)
       ≡ record {
         answer = atPlace 11 0;
         cells = replicate 14 (pos 9);
         log = replicate 18 9;
-        distances = pos 9 ∷ [];
-        parents = pos 9 ∷ [];
+        results = byKind (pos 9 ∷ []) (pos 9 ∷ []);
       }
   -- "Cells, log and results beyond the needed part stay untouched": method 1, n = 1, m = 0, one place more of each.
   pub untouched : outcome (0x1000010000000000 ∷ []) (nines 12 9 2 2)
       ≡ record {
         answer = record { number = 0; place = none; values = 6 ∷ 8 ∷ 0 ∷ [] };
         cells = (pos 0 ∷ negsuc 0 ∷ pos 0 ∷ pos 274877906944 ∷ []) ++ replicate 7 (pos 0) ++ (pos 9 ∷ []);
-        log =
-            0x1000010000000000
-            ∷ 0x0000020000000000
-            ∷ 0x0000000000000000
-            ∷ 0x000001FFFFFFFFFF
-            ∷ 0x0000034000000000
-            ∷ 0x00000A0000000000
-            ∷ 0x7000000000A00000
-            ∷ 0
-            ∷ 9
-            ∷ [];
-        distances = pos 0 ∷ pos 9 ∷ [];
-        parents = negsuc 0 ∷ pos 9 ∷ [];
+        log = smallestPlan ++ (0 ∷ 9 ∷ []);
+        results = byKind (pos 0 ∷ pos 9 ∷ []) (negsuc 0 ∷ pos 9 ∷ []);
       }
+  -- The sources that distances are from: the header's, in both methods.
+  pub sources : (sourcesOf (headerOf 0x1000200008000007) ≡ 7 ∷ []) × (sourcesOf (headerOf 0x2000200000000013) ≡ 19 ∷ [])

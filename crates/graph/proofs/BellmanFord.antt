@@ -21,7 +21,7 @@ use Rattle.graph.proofs.Int.{arithℤ, sum, le-abs, le-or-lt}
 use Rattle.graph.proofs.Walk.{WalkOf, one-more, shorten}
 use Rattle.graph.proofs.Certificate.{Sound, Closed, no-negative-cycle}
 use Rattle.graph.proofs.Parents as parents
-use Rattle.graph.proofs.Parents.{Parents}
+use Rattle.graph.proofs.Parents.{Ranked}
 use Rattle.graph.proofs.Relax.{gain-yes, gain-no, lower, relaxes, still-within, still-blank, still-root, still-sound, still-parents}
 
 -- ---- what each relaxed edge keeps holds throughout; c counts the relaxed edges
@@ -83,7 +83,7 @@ module _ (edge : ℕ → Edge) (far : ℤ) (st : State) where
 record Inv (edge : ℕ → Edge) (m n s : ℕ) (far : ℤ) (st : State) : Type 0 where
   low : (v : ℕ) → st .dist v ≤ℤ far
   sound : Sound (network edge m) far n s (st .dist)
-  parents : Parents (network edge m) (numbered edge m) far n s (st .dist) (st .parent)
+  parents : Ranked (network edge m) (numbered edge m) far n s (st .dist) (st .parent)
   blank : (v : ℕ) → st .dist v ≡ far → st .parent v ≡ negsuc 0
   root : st .dist s ≡ pos 0 → st .parent s ≡ negsuc 0
 

@@ -1,12 +1,14 @@
 -- Distances that carry their own proof: `Sound`, that some walk has each as its total, and `Closed`, that no edge would lower one, make them least totals.
 -- Rests on walks and on the integer kit.
 use mathlib.Core.Path.{_≡_, ap}
+use mathlib.Core.Logic.{_≢_, inl, inr}
 use mathlib.Core.List.{List, [], _∷_}
 use Prim.Native.Nat.{ℕ, _<_}
 use lib.IntN.{ℤ, pos, _+ℤ_}
 use lib.Signed.{_≤ℤ_, _<ℤ_}
-use Rattle.graph.specs.Walk.{Edge, Network, Chain, total, Walk, Least, NegativeCycle}
-use Rattle.graph.proofs.Int.{arithℤ, sum}
+use Rattle.graph.specs.Walk.{Edge, Network, Chain, total, Least, NegativeCycle}
+use Rattle.graph.specs.Shortest.{Distances}
+use Rattle.graph.proofs.Int.{arithℤ, sum, le-or-lt}
 use Rattle.graph.proofs.Walk.{WalkOf}
 
 -- A vertex of distance `far` or more is not reached. Of vertices from n on nothing is said.
@@ -18,6 +20,10 @@ pub record Sound (net : Network) (far : ℤ) (n s : ℕ) (dist : ℕ → ℤ) : 
 -- An edge from a reached vertex leads to a reached one, and would not lower it.
 abbrev pub Closed : Network → ℤ → (ℕ → ℤ) → Type 0
 Closed net far dist = (e : Edge) → net e → dist (e .from) <ℤ far → (dist (e .to) <ℤ far) × (dist (e .to) ≤ℤ (dist (e .from) +ℤ e .weight))
+
+-- A distance that is not `far` is below it.
+pub near : {d far : ℤ} → d ≤ℤ far → d ≢ far → d <ℤ far
+near {d} {far} low h = elim (le-or-lt far d) [ inl k ↦ absurd (h (omega arithℤ)) | inr k ↦ k ]
 
 module _ (net : Network) (far : ℤ) (n s : ℕ) (dist : ℕ → ℤ) (closed : Closed net far dist) where
   along : (es : List Edge) (u v : ℕ) → Chain net u es v → dist u <ℤ far → (dist v <ℤ far) × (dist v ≤ℤ (dist u +ℤ total es))
@@ -37,13 +43,17 @@ module _ (net : Network) (far : ℤ) (n s : ℕ) (dist : ℕ → ℤ) (closed : 
         let a = along es s v c (sound .begun) in
         (a .0, omega (arithℤ, sound .start, sum (dist s) (total es)))
 
-    pub distances : (v : ℕ) → v < n → dist v <ℤ far → (es : List Edge) × Least net s v (dist v) es
-    distances v l h =
-        let w = sound .walks v l h in
-        (w .0, record { leads = w .1; sums = w .2; least = λ fs c. closed-least fs v c .1 })
-
-    pub no-walk : (v : ℕ) → ¬ (dist v <ℤ far) → ¬ Walk net s v
-    no-walk v h w = h (closed-least (w .0) v (w .1) .0)
+    pub distances : ((v : ℕ) → v < n → dist v ≤ℤ far) → Distances net far n s dist
+    distances low =
+        record {
+          reached = λ v l h.
+              let w = sound .walks v l (near (low v l) h) in
+              (w .0, record { leads = w .1; sums = w .2; least = λ fs c. closed-least fs v c .1 });
+          unreached = λ v l. (
+            λ (e : dist v ≡ far) w. omega (arithℤ, closed-least (w .0) v (w .1) .0),
+            λ f. elim (le-or-lt far (dist v)) [ inl h ↦ omega (arithℤ, low v l) | inr h ↦ absurd (f (let w = sound .walks v l h in (w .0, w .1))) ],
+          );
+        }
 
     pub no-negative-cycle : ¬ NegativeCycle net s
     no-negative-cycle z =

@@ -19,7 +19,7 @@ use Rattle.graph.proofs.Int.{arithℤ, sum}
 use Rattle.graph.proofs.Pigeon.{pigeon}
 use Rattle.graph.proofs.Certificate.{Closed}
 use Rattle.graph.proofs.Parents as parents
-use Rattle.graph.proofs.Parents.{Parents}
+use Rattle.graph.proofs.Parents.{Ranked}
 
 -- ---- the choice
 
@@ -326,7 +326,7 @@ module _ (far limit n source : ℕ) (table : ℕ → ℕ → ℕ) where
           let q = inv .seen (e .from) lf o in
           rw w (omega arithℤ)
 
-      marked : Parents (tableNetwork far n table) fromVertex (pos far) n source (λ v. pos (end .dist v)) (end .parent)
+      marked : Ranked (tableNetwork far n table) fromVertex (pos far) n source (λ v. pos (end .dist v)) (end .parent)
       marked =
           record {
             rank = inv .rank;

@@ -15,7 +15,7 @@ use Rattle.graph.proofs.Test.{by-test, and-both, and-not}
 use Rattle.graph.proofs.Int.{arithℤ, sum, abs-add, ltZ-true, ltZ-false, lt-ltZ}
 use Rattle.graph.proofs.Walk.{one-more}
 use Rattle.graph.proofs.Certificate.{Sound}
-use Rattle.graph.proofs.Parents.{Parent, Parents}
+use Rattle.graph.proofs.Parents.{Parent, Ranked}
 
 module _ (edge : ℕ → Edge) (far : ℤ) (i : ℕ) (a : State) where
   -- The edge begins at u; b is a after it is relaxed.
@@ -92,7 +92,7 @@ module _ (edge : ℕ → Edge) (far : ℤ) (i : ℕ) (a : State) where
           ];
         }
 
-    pub still-parents : Parents (network edge m) (numbered edge m) far n s (a .dist) (a .parent) → Parents (network edge m) (numbered edge m) far n s (b .dist) (b .parent)
+    pub still-parents : Ranked (network edge m) (numbered edge m) far n s (a .dist) (a .parent) → Ranked (network edge m) (numbered edge m) far n s (b .dist) (b .parent)
     still-parents p = record { rank = ranked (p .rank); each = each }
       where
         same-rank : (v : ℕ) → a .dist v ≤ℤ b .dist v → ranked (p .rank) v ≡ p .rank v

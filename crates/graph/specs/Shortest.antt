@@ -25,11 +25,19 @@ pub record LastEdge (net : Network) (Names : Naming) (source : ℕ) (dist parent
   pub front : List Edge
   pub least : Least net source v (dist v) (front ++ edge ∷ [])
 
--- Of the vertices below n; `far` marks an unreached one.
-pub record Shortest (net : Network) (Names : Naming) (far : ℤ) (n source : ℕ) (dist parent : ℕ → ℤ) : Type 0 where
+-- Least totals over all walks from the source to the vertices below n; `far` marks an unreached one.
+pub record Distances (net : Network) (far : ℤ) (n source : ℕ) (dist : ℕ → ℤ) : Type 0 where
   pub reached : (v : ℕ) → v < n → dist v ≢ far → (es : List Edge) × Least net source v (dist v) es
   pub unreached : (v : ℕ) → v < n → (dist v ≡ far) ↔ ¬ Walk net source v
+
+-- Parents to those distances: on least walks, leading back to the source; -1 is the parent of the source and of unreached vertices.
+pub record Parents (net : Network) (Names : Naming) (far : ℤ) (n source : ℕ) (dist parent : ℕ → ℤ) : Type 0 where
   pub last-edge : (v : ℕ) → v < n → dist v ≢ far → v ≢ source → LastEdge net Names source dist parent v
   pub leads : (v : ℕ) → v < n → dist v ≢ far → Leads net Names source parent v
   pub source-mark : parent source ≡ negsuc 0
   pub unreached-mark : (v : ℕ) → v < n → dist v ≡ far → parent v ≡ negsuc 0
+
+-- Shortest walks from the source: their totals, and parents along them.
+pub record Shortest (net : Network) (Names : Naming) (far : ℤ) (n source : ℕ) (dist parent : ℕ → ℤ) : Type 0 where
+  pub distances : Distances net far n source dist
+  pub parents : Parents net Names far n source dist parent

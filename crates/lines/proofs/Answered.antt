@@ -12,13 +12,15 @@ use Rattle.answers.specs.Refusal.{placeOf, placeShown}
 use Rattle.answers.specs.Told.{refused, Apart}
 use Rattle.answers.proofs.Apart.{MetApart}
 use Rattle.plans.specs.declared.Header.{Header}
+use Rattle.plans.specs.Plan.{distances, parents, byKind}
 use Rattle.requests.specs.WithinLimits.{headerIn}
 use Rattle.requests.proofs.Numbers.{request-apart}
 use Rattle.engine.specs.declared.Answer.{Answer}
 use Rattle.engine.specs.declared.Answer.the-variants.{Ran, NegativeCycle, Refused}
 use Rattle.engine.specs.Run.{toldByRun, Lent, refusalOf, verdictOfRun, ranBy, outcomeBy, outcome, Met}
 use Rattle.lines.specs.Texts.{refusalText, toldText, textOf, toldLog, logText, Distinct}
-use Rattle.lines.proofs.Fits.{vertices-fit, log-fits}
+use Rattle.lines.proofs.Fits as Fits
+use Rattle.lines.proofs.Fits.{log-fits}
 
 pub refused-text : (r : Refusal) → Apart r → (h : Header) (ds ps : List ℤ)
     → refusalText (r .number) (placeShown (placeOf r)) ≡ toldText h (refused r) ds ps
@@ -42,23 +44,22 @@ told-distinct : (request : List ℕ) (lent : Lent) (a : Answer) → toldByRun a 
 unfolding outcome
 told-distinct request lent (Ran r) e = tt
 told-distinct request lent (NegativeCycle r) e = tt
-told-distinct request lent (Refused r) e = told-apart request lent r (refusalOf request lent) (request-apart request _ _ _ _) e
+told-distinct request lent (Refused r) e = told-apart request lent r (refusalOf request lent) (request-apart request _) e
 
 module _ (request : List ℕ) (lent : Lent) (a : Answer) (cells : List ℤ) (log : List ℕ) (ds ps : List ℤ)
-    (m : Met (outcome request lent) a cells log ds ps) where
+    (m : Met (outcome request lent) a cells log (byKind ds ps)) where
   pub distinct : Distinct a
   distinct = told-distinct request lent a (m .answers)
 
-  pub few-vertices : (h : Header) → h ≡ headerIn request → toldByRun a .number ≡ 0 → h .vertices ≤ length ds
-  few-vertices h e z =
-      rw (e, m .distances-left) (vertices-fit request lent (ap (λ t. t .number) (sym (m .answers)) ∙ z))
+  pub few-vertices : (h : Header) → h ≡ headerIn request → toldByRun a .number ≡ 0 → h .vertices ≤ 32
+  few-vertices h e z = rw e (Fits.few-vertices request lent (ap (λ t. t .number) (sym (m .answers)) ∙ z))
 
   pub short-log : getD (toldByRun a .values) 1 0 ≤ length log
   short-log = rw (m .answers, m .log-left) (log-fits request lent)
 
   pub answer-text : (h : Header) → h ≡ headerIn request → toldText h (toldByRun a) ds ps ≡ textOf request (outcome request lent)
   unfolding textOf
-  answer-text h e = rw (e, m .answers, m .distances-left, m .parents-left)
+  answer-text h e = rw (e, m .answers, ← m .results-left distances, ← m .results-left parents)
 
   pub log-text : toldLog (toldByRun a) log ≡ logText (outcome request lent)
   unfolding logText

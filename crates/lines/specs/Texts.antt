@@ -16,6 +16,7 @@ use Rattle.machine.specs.Effect.{eqZ}
 use Rattle.plans.specs.Blocks.{flat}
 use Rattle.plans.specs.Limits.{far}
 use Rattle.plans.specs.declared.Header.{Header}
+use Rattle.plans.specs.Plan.{distances, parents}
 use Rattle.requests.specs.WithinLimits.{headerIn}
 use Rattle.engine.specs.declared.Answer.{Answer}
 use Rattle.engine.specs.declared.Answer.the-variants.{Ran, NegativeCycle, Refused}
@@ -35,14 +36,14 @@ rowText v distance parent = lineOf (decimal v ∷ distanceText distance ∷ pare
 
 -- For each of the first `count` vertices.
 abbrev pub rowsText : (count : ℕ) (distances parents : List ℤ) → List ℕ
-rowsText count distances parents = flat count (λ v. rowText v (getD distances v (pos 0)) (getD parents v (pos 0)))
+rowsText count ds ps = flat count (λ v. rowText v (getD ds v (pos 0)) (getD ps v (pos 0)))
 
 -- ---- `method yards lanes source rounds verdict`, then the rows. A run tells its rounds, log length and verdict.
 
 abbrev pub resultsText : Header → (values : List ℕ) (distances parents : List ℤ) → List ℕ
-resultsText h values distances parents =
+resultsText h values ds ps =
     numbersLine (h .method ∷ h .vertices ∷ h .edges ∷ h .source ∷ getD values 0 0 ∷ getD values 2 0 ∷ [])
-    ++ rowsText (h .vertices) distances parents
+    ++ rowsText (h .vertices) ds ps
 
 -- ---- `refused number place`, the place where there is one
 
@@ -66,11 +67,11 @@ Distinct (NegativeCycle r) = Unit {0}
 Distinct (Refused r) = Apart r
 
 abbrev pub toldText : Header → Told → (distances parents : List ℤ) → List ℕ
-toldText h t distances parents =
-    cond (eqb (t .number) 0) (resultsText h (t .values) distances parents) (refusalText (t .number) (placeShown (t .place)))
+toldText h t ds ps =
+    cond (eqb (t .number) 0) (resultsText h (t .values) ds ps) (refusalText (t .number) (placeShown (t .place)))
 
 unfoldable pub textOf : (request : List ℕ) → Outcome → List ℕ
-textOf request o = toldText (headerIn request) (o .answer) (o .distances) (o .parents)
+textOf request o = toldText (headerIn request) (o .answer) (o .results distances) (o .results parents)
 
 -- ---- a log, a word a line: of a request that ran, which met no refusal, or 12 alone
 

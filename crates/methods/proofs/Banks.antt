@@ -130,19 +130,16 @@ module _ {A : Type 0} (same : A → A → Bool) (L : Layout A same) where
           (carried is (good .1) (after same (effect i s) s) _ (step (effect i s) _ alike s cells h)) r
 
       -- An outline by names, and at their places.
-      module _ (name : (region place : ℕ) → A) (there : (region place : ℕ) → ℕ)
-          (placed : (r p : ℕ) → place (name r p) ≡ there r p) (far : ℤ) (n m source : ℕ) (o : Outline) where
+      module _ (name : (region place : ℕ) → A) (far : ℤ) (n m source : ℕ) (o : Outline) where
         abbrev by-names : List (Instruction A)
         by-names = instructions name far n m source o start
 
         abbrev at-places : List (Instruction ℕ)
-        at-places = instructions there far n m source o start
+        at-places = instructions (λ r p. place (name r p)) far n m source o start
 
         pub on-bank : Kept Good (λ z. Unit {0}) name far n m o → Runs (numbers same Q) by-names R (λ a. cellAt first (place a))
             → Summed Q at-places first × Ended R (performAll at-places first)
         on-bank kept r =
-            subst (λ is. Summed Q is first × Ended R (performAll is first))
-            (plan-renamed place name far n m source o start
-            ∙ ap (λ name. instructions name far n m source o start) (λ i r p. placed r p i))
+            subst (λ is. Summed Q is first × Ended R (performAll is first)) (plan-renamed place name far n m source o start)
             (carried by-names (keeps Good (λ z. Unit {0}) name far n m source o kept) (λ a. cellAt first (place a)) first
             (record { long = refl; cell = λ a g. refl; rest = λ k l. refl }) r)

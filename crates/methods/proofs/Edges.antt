@@ -12,29 +12,15 @@ use lib.Signed.{ltZ}
 use Rattle.machine.specs.Instruction.{Instruction}
 use Rattle.machine.specs.Effect.{bit, wrapAdd}
 use Rattle.plans.specs.Outline.{middle, vertices, fixed, counted, set, Outline, end, line, run, _▸_, counted-to, start, instructions}
-use Rattle.plans.specs.Method1.{Places, address, gather, update, test, relax, check}
+use Rattle.plans.specs.Method1.{from, to, weight, D, P, Y, X, gather, update, test, relax, check}
 use Rattle.graph.specs.Walk.{Edge}
 use Rattle.graph.specs.BellmanFord.{State, offer, gain, relaxed}
 use Rattle.methods.specs.Method1.{Limited}
 use Rattle.methods.proofs.Steps.{Claim, Kind, Runs, loop}
 use Rattle.methods.proofs.Stores.{numbers}
-use Rattle.methods.proofs.Names.{Name, same, Store}
+use Rattle.methods.proofs.Names.{Name, same, pair, Store}
 use Rattle.methods.proofs.Bits.{eqb-sym, both-bit, pick-bit, raised, and-at, sum-exact}
 use Rattle.methods.proofs.Filled.{upto, upto-zero, upto-here, upto-all, upto-suc}
-
-abbrev pub names : Places Name
-names =
-    record {
-      from = λ i. (0, i);
-      to = λ i. (1, i);
-      weight = λ i. (2, i);
-      D = λ v. (3, v);
-      P = λ v. (4, v);
-      Y = λ v. (5, v);
-      X = λ j. (6, j);
-    }
-
-open Places names using (from, to, weight, D, P, Y, X)
 
 -- ---- the sums that the method forms
 
@@ -89,7 +75,7 @@ module _ (far limit : ℕ) (edge : ℕ → Edge) (n m source : ℕ) (limited : L
 
   -- The outline's instructions for edge i.
   abbrev Does : Outline → Claim Store → Claim Store
-  Does o = Runs (steps far limit) (instructions (address names) (pos far) n m source o (counted-to middle i start))
+  Does o = Runs (steps far limit) (instructions pair (pos far) n m source o (counted-to middle i start))
 
   -- ---- the from-vertex's distance, the offer, and whether the from-vertex is reached
 
@@ -144,7 +130,7 @@ module _ (far limit : ℕ) (edge : ℕ → Edge) (n m source : ℕ) (limited : L
     pub relax-runs : (s : Store) → Holds far edge n m st flag s → Does relax (Holds far edge n m next flag) s
     unfolding instructions
     relax-runs s h =
-        gather-runs flag (line (set (6, fixed 3) (counted middle)) ▸ run vertices update ▸ end) _ s h
+        gather-runs flag (line (set (X (fixed 3)) (counted middle)) ▸ run vertices update ▸ end) _ s h
         (λ t (h, x2, x4).
         loop (steps far limit) Updated n _ _ _ (
           record {

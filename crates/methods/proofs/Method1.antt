@@ -1,18 +1,16 @@
 -- Method 1's plan on a bank that intake has laid leaves least totals, their parents and the verdict.
 -- Rests on passes, banks and Bellman-Ford.
-use mathlib.Core.Path.{_≡_, sym, ap, _∙_}
+use mathlib.Core.Path.{_≡_, _∙_}
 use mathlib.Core.Logic.{Iff·trans, _≢_, inl, inr}
-use mathlib.Core.List.{List, [], _∷_}
-use Prim.Native.Nat.{ℕ, suc, _-_, _*_, _<_, _≤_}
+use mathlib.Core.List.{List}
+use Prim.Native.Nat.{ℕ, suc, _-_, _*_, _<_}
 use native.Mathlib.Omega.{arith}
-use lib.Dec.{lit<}
 use lib.IntN.{ℤ, pos, _+ℤ_}
-use lib.ListN.{length}
 use lib.Signed.{_<ℤ_}
 use Rattle.machine.specs.Effect.{bit, cellAt}
+use Rattle.plans.specs.Regions.{cell}
 use Rattle.plans.specs.Method1 as Method1
-use Rattle.plans.specs.Method1.{places, address, outline}
-use Rattle.plans.proofs.Outlines.{by-region}
+use Rattle.plans.specs.Method1.{D, P, X, starts, cellCount, outline}
 use Rattle.graph.specs.Walk.{Edge, Below}
 use Rattle.graph.specs.BellmanFord.{network, numbered, State, bellmanFord, slack}
 use Rattle.graph.proofs.Int.{arithℤ, abs-add, le-abs}
@@ -22,20 +20,13 @@ use Rattle.methods.specs.Bank.{performAll, Summed}
 use Rattle.methods.specs.Method1.{Room, Laid, Solved, plan}
 use Rattle.methods.proofs.Sums.{summed-map}
 use Rattle.methods.proofs.Banks.{Layout, Ended, on-bank}
-use Rattle.methods.proofs.Names.{Name, same, Store, regions}
+use Rattle.methods.proofs.Names.{Name, same, pair, Store, regions}
 use Rattle.methods.proofs.Bits.{bit-one, bit-zero}
-use Rattle.methods.proofs.Edges.{names, Sum, near-exact, Given, Holds}
+use Rattle.methods.proofs.Edges.{Sum, near-exact, Given, Holds}
 use Rattle.methods.proofs.Passes.{plan-runs}
 
--- ---- the plan by names, at its places
-
 abbrev layout : (n m : ℕ) → Layout Name same
-layout n m = regions (m ∷ m ∷ m ∷ n ∷ n ∷ n ∷ 8 ∷ [])
-
-placed : (n m r p : ℕ) → layout n m .place (address names r p) ≡ address (places n m) r p
-placed n m = by-region 7 _ (omega arith)
-
--- ---- the theorem
+layout n m = regions (starts n m) (cellCount n m) (omega arith)
 
 below-far : (far limit : ℕ) (x w : ℤ) → Sum far limit x w → x ≢ pos far → (x +ℤ w) <ℤ pos far
 below-far far limit x w (inl e, l) ne = absurd (ne e)
@@ -55,32 +46,23 @@ module _ (far limit : ℕ) (edge : ℕ → Edge) (n m source : ℕ) (cells : Lis
   below : Below (network edge m) n
   below e (i, l, q) = rw q (laid .limited .from-below i l, laid .limited .to-below i l)
 
-  enough : layout n m .size ≤ length cells
-  enough = omega (arith, laid .enough)
-
   given : Given edge m (λ a. cellAt cells (layout n m .place a))
-  given =
-      record {
-        from = λ i l. ap (cellAt cells) (placed n m 0 i) ∙ laid .from i l;
-        to = λ i l. ap (cellAt cells) (placed n m 1 i) ∙ laid .to i l;
-        weight = λ i l. ap (cellAt cells) (placed n m 2 i) ∙ laid .weight i l;
-      }
+  given = record { from = laid .from; to = laid .to; weight = laid .weight }
 
-  ran : Summed (Sum far limit) (plan far n m source) cells × Ended same (layout n m) cells enough End left
+  ran : Summed (Sum far limit) (plan far n m source) cells × Ended same (layout n m) cells (laid .enough) End left
   unfolding Method1.plan
   ran =
-      on-bank same (layout n m) cells enough (Sum far limit) End (address names) (address (places n m)) (placed n m)
-      (pos far) n m source outline (search arith)
+      on-bank same (layout n m) cells (laid .enough) (Sum far limit) End pair (pos far) n m source outline (search arith)
       (plan-runs far limit edge n m source room (laid .limited) _ given)
 
-  flag : cellAt left (places n m .X 7) ≡ bit (slack edge (pos far) m final)
-  flag = ap (cellAt left) (sym (placed n m 6 7)) ∙ ran .1 .mirrored .cell (names .X 7) (lit< tt) ∙ ran .1 .meets .flag
+  flag : cellAt left (cell (starts n m) (X 7)) ≡ bit (slack edge (pos far) m final)
+  flag = ran .1 .mirrored .cell (X 7) (omega arith) ∙ ran .1 .meets .flag
 
-  dist : (v : ℕ) → v < n → cellAt left (places n m .D v) ≡ final .dist v
-  dist v l = ap (cellAt left) (sym (placed n m 3 v)) ∙ ran .1 .mirrored .cell (names .D v) l ∙ ran .1 .meets .dist v l
+  dist : (v : ℕ) → v < n → cellAt left (cell (starts n m) (D v)) ≡ final .dist v
+  dist v l = ran .1 .mirrored .cell (D v) (omega arith) ∙ ran .1 .meets .dist v l
 
-  parent : (v : ℕ) → v < n → cellAt left (places n m .P v) ≡ final .parent v
-  parent v l = ap (cellAt left) (sym (placed n m 4 v)) ∙ ran .1 .mirrored .cell (names .P v) l ∙ ran .1 .meets .parent v l
+  parent : (v : ℕ) → v < n → cellAt left (cell (starts n m) (P v)) ≡ final .parent v
+  parent v l = ran .1 .mirrored .cell (P v) (omega arith) ∙ ran .1 .meets .parent v l
 
   pub method1 : Solved far edge n m source cells left
   method1 =
@@ -94,7 +76,7 @@ module _ (far limit : ℕ) (edge : ℕ → Edge) (n m source : ℕ) (cells : Lis
         none = rw flag (Iff·trans (bit-zero (slack edge (pos far) m final)) no);
         shortest =
             λ c.
-            carried (network edge m) (numbered edge m) (pos far) n source _ _ _ _ below s dist parent
+            carried (network edge m) (pos far) n source _ _ dist (numbered edge m) _ _ below s parent
             (shortest edge m n source (pos far) limit below s weights deep (no .1 c));
         rest = λ k l. ran .1 .mirrored .rest k (omega arith);
         long = ran .1 .mirrored .long;

@@ -1,17 +1,16 @@
 -- Method 2's plan on a bank that intake has laid leaves least totals and their parents.
 -- Rests on turns, banks and Dijkstra.
-use mathlib.Core.Path.{_≡_, sym, ap, _∙_}
+use mathlib.Core.Path.{_≡_, _∙_}
 use mathlib.Core.Logic.{inl, inr}
-use mathlib.Core.List.{List, [], _∷_}
-use Prim.Native.Nat.{ℕ, _+_, _*_, _<_, _≤_}
+use mathlib.Core.List.{List}
+use Prim.Native.Nat.{ℕ, _<_, _≤_}
 use native.Mathlib.Nat.{mul-le-mul-right}
 use native.Mathlib.Omega.{arith}
 use lib.IntN.{ℤ, pos}
-use lib.ListN.{length}
 use Rattle.machine.specs.Effect.{cellAt}
-use Rattle.plans.specs.Method2.{places, address, outline}
+use Rattle.plans.specs.Method2.{D, P, starts, cellCount, outline}
+use Rattle.plans.specs.Regions.{cell}
 use Rattle.plans.specs.Method2 as Method2
-use Rattle.plans.proofs.Outlines.{by-region}
 use Rattle.graph.specs.Dijkstra.{tableNetwork, fromVertex, State, turns}
 use Rattle.graph.proofs.Parents.{carried}
 use Rattle.graph.proofs.Dijkstra.{dijkstra}
@@ -19,19 +18,12 @@ use Rattle.methods.specs.Bank.{performAll, Summed}
 use Rattle.methods.specs.Method2.{Room, Laid, Solved, plan}
 use Rattle.methods.proofs.Sums.{summed-map}
 use Rattle.methods.proofs.Banks.{Layout, Ended, on-bank}
-use Rattle.methods.proofs.Names.{Name, same, Store, regions}
+use Rattle.methods.proofs.Names.{Name, same, pair, Store, regions}
 use Rattle.methods.proofs.Bits.{sum-exact}
-use Rattle.methods.proofs.Turns.{names, Sum, Given, Holds, plan-runs}
-
--- ---- the plan by names, at its places
+use Rattle.methods.proofs.Turns.{Sum, Given, Holds, plan-runs}
 
 abbrev layout : (n : ℕ) → Layout Name same
-layout n = regions (n * n ∷ n ∷ n ∷ n ∷ n ∷ n ∷ 6 ∷ [])
-
-placed : (n r p : ℕ) → layout n .place (address names r p) ≡ address (places n) r p
-placed n = by-region 7 _ (omega arith)
-
--- ---- the theorem
+layout n = regions (starts n) (cellCount n) (omega arith)
 
 module _ (far limit : ℕ) (table : ℕ → ℕ → ℕ) (n source : ℕ) (cells : List ℤ) (room : Room far limit n)
     (laid : Laid far limit table n source cells) where
@@ -51,31 +43,27 @@ module _ (far limit : ℕ) (table : ℕ → ℕ → ℕ) (n source : ℕ) (cells
         | inr e ↦ omega arith
       ]
 
-  enough : layout n .size ≤ length cells
-  enough = omega (arith, laid .enough)
-
   given : Given table n (λ a. cellAt cells (layout n .place a))
-  given u j lu lj = ap (cellAt cells) (placed n 0 (u * n + j)) ∙ laid .entry u j lu lj
+  given = laid .entry
 
-  ran : Summed Sum (plan far n source) cells × Ended same (layout n) cells enough End left
+  ran : Summed Sum (plan far n source) cells × Ended same (layout n) cells (laid .enough) End left
   unfolding Method2.plan
   ran =
-      on-bank same (layout n) cells enough Sum End (address names) (address (places n)) (placed n)
-      (pos far) n 0 source outline (search arith)
+      on-bank same (layout n) cells (laid .enough) Sum End pair (pos far) n 0 source outline (search arith)
       (plan-runs far table n source most (room .fits) _ given)
 
-  dist : (v : ℕ) → v < n → cellAt left (places n .D v) ≡ pos (final .dist v)
-  dist v l = ap (cellAt left) (sym (placed n 1 v)) ∙ ran .1 .mirrored .cell (names .D v) l ∙ ran .1 .meets .dist v l
+  dist : (v : ℕ) → v < n → cellAt left (cell (starts n) (D v)) ≡ pos (final .dist v)
+  dist v l = ran .1 .mirrored .cell (D v) (omega arith) ∙ ran .1 .meets .dist v l
 
-  parent : (v : ℕ) → v < n → cellAt left (places n .P v) ≡ final .parent v
-  parent v l = ap (cellAt left) (sym (placed n 2 v)) ∙ ran .1 .mirrored .cell (names .P v) l ∙ ran .1 .meets .parent v l
+  parent : (v : ℕ) → v < n → cellAt left (cell (starts n) (P v)) ≡ final .parent v
+  parent v l = ran .1 .mirrored .cell (P v) (omega arith) ∙ ran .1 .meets .parent v l
 
   pub method2 : Solved far table n source cells left
   method2 =
       record {
         shortest =
-            carried (tableNetwork far n table) fromVertex (pos far) n source _ _ _ _ (λ e h. (h .0, h .1))
-            (laid .source-below) dist parent (dijkstra far limit n source table (laid .entry-most) (room .deep));
+            carried (tableNetwork far n table) (pos far) n source _ _ dist fromVertex _ _ (λ e h. (h .0, h .1))
+            (laid .source-below) parent (dijkstra far limit n source table (laid .entry-most) (room .deep));
         rest = λ k l. ran .1 .mirrored .rest k (omega arith);
         long = ran .1 .mirrored .long;
         exact = summed-map Sum _ sum-exact (plan far n source) cells (ran .0);

@@ -9,17 +9,16 @@ use native.Mathlib.Omega.{arith}
 use lib.IntN.{pos}
 use Rattle.machine.specs.Effect.{bit}
 use Rattle.plans.specs.Outline.{instructions}
-use Rattle.plans.specs.Method1.{Places, plan}
+use Rattle.plans.specs.Method1.{D, P, Y, plan}
 use Rattle.graph.specs.Walk.{Edge}
 use Rattle.graph.specs.BellmanFord as BellmanFord
 use Rattle.graph.specs.BellmanFord.{State, start, passes, bellmanFord, slack}
 use Rattle.graph.proofs.BellmanFord.{within}
 use Rattle.methods.specs.Method1.{Room, Limited}
 use Rattle.methods.proofs.Steps.{Runs, loop}
-use Rattle.methods.proofs.Names.{Store}
+use Rattle.methods.proofs.Names.{pair, Store}
 use Rattle.methods.proofs.Filled.{fill-none, fill}
-use Rattle.methods.proofs.Edges.{names, Near, steps, Given, Holds, relax-runs, check-runs}
-open Places names using (D, P, Y)
+use Rattle.methods.proofs.Edges.{Near, steps, Given, Holds, relax-runs, check-runs}
 
 module _ (far limit : ℕ) (edge : ℕ → Edge) (n m source : ℕ) (room : Room far limit n m) (limited : Limited limit edge n m) where
   abbrev first : State
@@ -54,7 +53,7 @@ module _ (far limit : ℕ) (edge : ℕ → Edge) (n m source : ℕ) (room : Room
       × ((v : ℕ) → v < k → t (P v) ≡ first .parent v)
 
   pub plan-runs : (s : Store) → Given edge m s
-      → Runs (steps far limit) (plan names (pos far) n m source) (Holds far edge n m final (bit (slack edge (pos far) m final))) s
+      → Runs (steps far limit) (plan pair (pos far) n m source) (Holds far edge n m final (bit (slack edge (pos far) m final))) s
   unfolding plan instructions bit
   plan-runs s h =
       loop (steps far limit) Opened n _ _ _ (h, fill-none _ _, fill-none _ _, fill-none _ _)

@@ -9,30 +9,16 @@ use lib.IntN.{ℤ, pos, negsuc, natAbs}
 use Rattle.machine.specs.Instruction.{Instruction}
 use Rattle.machine.specs.Effect.{eqZ, bit, wrapAdd}
 use Rattle.plans.specs.Outline.{middle, Outline, counted-to, start, instructions}
-use Rattle.plans.specs.Method2.{Places, address, fetch, turn, plan}
+use Rattle.plans.specs.Method2.{U, D, P, Y, O, R, X, fetch, turn, plan}
 use Rattle.plans.specs.declared.Counters.{Counters}
 use Rattle.graph.specs.Dijkstra as Dijkstra
 use Rattle.graph.specs.Dijkstra.{State, begin, best, who, rowOf, isVertex, turns}
 use Rattle.graph.proofs.Dijkstra.{Picked, nobody, picked, pick, sum-bound}
 use Rattle.methods.proofs.Steps.{Claim, Kind, Runs, loop}
 use Rattle.methods.proofs.Stores.{numbers}
-use Rattle.methods.proofs.Names.{Name, same, Store}
+use Rattle.methods.proofs.Names.{Name, same, pair, Store}
 use Rattle.methods.proofs.Bits.{eqb-sym, both-bit, pick-bit, cond-ap, cond-zero, sum-exact}
 use Rattle.methods.proofs.Filled.{upto, upto-zero, upto-here, upto-all, upto-suc, fill-none, fill}
-
-abbrev pub names : Places Name
-names =
-    record {
-      U = λ k. (0, k);
-      D = λ v. (1, v);
-      P = λ v. (2, v);
-      Y = λ v. (3, v);
-      O = λ v. (4, v);
-      R = λ j. (5, j);
-      X = λ j. (6, j);
-    }
-
-open Places names using (U, D, P, Y, O, R, X)
 
 -- The sums that the method forms.
 abbrev pub Sum : ℤ → ℤ → Type 0
@@ -96,7 +82,7 @@ module _ (far : ℕ) (table : ℕ → ℕ → ℕ) (n : ℕ) where
 module _ (far : ℕ) (table : ℕ → ℕ → ℕ) (n source : ℕ) (most : (u j : ℕ) → u < n → j < n → table u j ≤ far)
     (fits : far + far < 2 ^ 63) where
   abbrev Does : Outline → Counters → Claim Store → Claim Store
-  Does o k = Runs steps (instructions (address names) (pos far) n 0 source o k)
+  Does o k = Runs steps (instructions pair (pos far) n 0 source o k)
 
   -- ---- a turn
 
@@ -275,7 +261,7 @@ module _ (far : ℕ) (table : ℕ → ℕ → ℕ) (n source : ℕ) (most : (u j
       × ((v : ℕ) → v < k → t (O v) ≡ bit (first .unseen v))
 
   pub plan-runs : (s : Store) → Given table n s
-      → Runs steps (plan names (pos far) n source) (Holds far table n (turns far table n source n)) s
+      → Runs steps (plan pair (pos far) n source) (Holds far table n (turns far table n source n)) s
   unfolding plan instructions bit
   plan-runs s h =
       loop steps Opened n _ _ _ (h, fill-none _ _, fill-none _ _, fill-none _ _, fill-none _ _)

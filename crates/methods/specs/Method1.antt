@@ -9,8 +9,9 @@ use lib.ListN.{length}
 use lib.Signed.{_<ℤ_}
 use Rattle.machine.specs.Instruction.{Instruction}
 use Rattle.machine.specs.Effect.{cellAt}
+use Rattle.plans.specs.Regions.{address, cell}
 use Rattle.plans.specs.Method1 as Method1
-use Rattle.plans.specs.Method1.{places, cellCount}
+use Rattle.plans.specs.Method1.{from, to, weight, D, P, X, starts, cellCount}
 use Rattle.graph.specs.Walk.{Edge, NegativeCycle}
 use Rattle.graph.specs.Shortest.{Shortest}
 use Rattle.graph.specs.BellmanFord.{network, numbered}
@@ -30,21 +31,21 @@ pub record Limited (limit : ℕ) (edge : ℕ → Edge) (n m : ℕ) : Type 0 wher
 -- What intake supplies.
 pub record Laid (limit : ℕ) (edge : ℕ → Edge) (n m source : ℕ) (cells : List ℤ) : Type 0 where
   pub enough : cellCount n m ≤ length cells
-  pub from : (i : ℕ) → i < m → cellAt cells (places n m .from i) ≡ pos (edge i .from)
-  pub to : (i : ℕ) → i < m → cellAt cells (places n m .to i) ≡ pos (edge i .to)
-  pub weight : (i : ℕ) → i < m → cellAt cells (places n m .weight i) ≡ edge i .weight
+  pub from : (i : ℕ) → i < m → cellAt cells (cell (starts n m) (from i)) ≡ pos (edge i .from)
+  pub to : (i : ℕ) → i < m → cellAt cells (cell (starts n m) (to i)) ≡ pos (edge i .to)
+  pub weight : (i : ℕ) → i < m → cellAt cells (cell (starts n m) (weight i)) ≡ edge i .weight
   pub limited : Limited limit edge n m
   pub source-below : source < n
 
 abbrev pub plan : (far n m source : ℕ) → List (Instruction ℕ)
-plan far n m source = Method1.plan (places n m) (pos far) n m source
+plan far n m source = Method1.plan (address (starts n m)) (pos far) n m source
 
 pub record Solved (far : ℕ) (edge : ℕ → Edge) (n m source : ℕ) (cells left : List ℤ) : Type 0 where
-  pub cycle : (cellAt left (places n m .X 7) ≡ pos 1) ↔ NegativeCycle (network edge m) source
-  pub none : (cellAt left (places n m .X 7) ≡ pos 0) ↔ ¬ NegativeCycle (network edge m) source
+  pub cycle : (cellAt left (cell (starts n m) (X 7)) ≡ pos 1) ↔ NegativeCycle (network edge m) source
+  pub none : (cellAt left (cell (starts n m) (X 7)) ≡ pos 0) ↔ ¬ NegativeCycle (network edge m) source
   pub shortest : ¬ NegativeCycle (network edge m) source
       → Shortest (network edge m) (numbered edge m) (pos far) n source
-      (λ v. cellAt left (places n m .D v)) (λ v. cellAt left (places n m .P v))
+      (λ v. cellAt left (cell (starts n m) (D v))) (λ v. cellAt left (cell (starts n m) (P v)))
   pub rest : (k : ℕ) → cellCount n m ≤ k → cellAt left k ≡ cellAt cells k
   pub long : length left ≡ length cells
   pub exact : Exact (plan far n m source) cells

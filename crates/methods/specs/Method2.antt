@@ -8,8 +8,9 @@ use lib.IntN.{ℤ, pos}
 use lib.ListN.{length}
 use Rattle.machine.specs.Instruction.{Instruction}
 use Rattle.machine.specs.Effect.{cellAt}
+use Rattle.plans.specs.Regions.{address, cell}
 use Rattle.plans.specs.Method2 as Method2
-use Rattle.plans.specs.Method2.{places, cellCount}
+use Rattle.plans.specs.Method2.{U, D, P, starts, cellCount}
 use Rattle.graph.specs.Shortest.{Shortest}
 use Rattle.graph.specs.Dijkstra.{tableNetwork, fromVertex}
 use Rattle.methods.specs.Bank.{Exact}
@@ -22,17 +23,17 @@ pub record Room (far limit n : ℕ) : Type 0 where
 -- What intake supplies.
 pub record Laid (far limit : ℕ) (table : ℕ → ℕ → ℕ) (n source : ℕ) (cells : List ℤ) : Type 0 where
   pub enough : cellCount n ≤ length cells
-  pub entry : (u j : ℕ) → u < n → j < n → cellAt cells (places n .U (u * n + j)) ≡ pos (table u j)
+  pub entry : (u j : ℕ) → u < n → j < n → cellAt cells (cell (starts n) (U (u * n + j))) ≡ pos (table u j)
   pub entry-most : (u j : ℕ) → u < n → j < n → (table u j ≤ limit) ⊎ (table u j ≡ far)
   pub source-below : source < n
 
 abbrev pub plan : (far n source : ℕ) → List (Instruction ℕ)
-plan far n source = Method2.plan (places n) (pos far) n source
+plan far n source = Method2.plan (address (starts n)) (pos far) n source
 
 pub record Solved (far : ℕ) (table : ℕ → ℕ → ℕ) (n source : ℕ) (cells left : List ℤ) : Type 0 where
   pub shortest :
       Shortest (tableNetwork far n table) fromVertex (pos far) n source
-      (λ v. cellAt left (places n .D v)) (λ v. cellAt left (places n .P v))
+      (λ v. cellAt left (cell (starts n) (D v))) (λ v. cellAt left (cell (starts n) (P v)))
   pub rest : (k : ℕ) → cellCount n ≤ k → cellAt left k ≡ cellAt cells k
   pub long : length left ≡ length cells
   pub exact : Exact (plan far n source) cells

@@ -1,6 +1,6 @@
 pub mod Facts
 pub mod Headers
 pub mod Answers
-pub mod Placed
+pub mod Figured
 pub mod Tables
 pub mod Fills

@@ -1,63 +1,72 @@
--- The methods' tables are made for their places. Rests on the laws of tables.
-use mathlib.Core.Path.{_≡_, refl}
-use Prim.Native.Nat.{ℕ, suc, _+_, _^_, _<_, _≤_}
+-- The methods' lines stand for their plans: what each method shows of them, and what is then so of a header's words.
+-- Rests on the laws of tables and of plans.
+use mathlib.Core.Path.{_≡_}
+use mathlib.Core.List.{List}
+use Prim.Native.Nat.{ℕ, _^_, _<_, _≤_}
 use native.Mathlib.Omega.{arith}
-use lib.ListN.{getD, List·getD-eq-default}
+use lib.ListN.{length, drop}
 use Rattle.machine.specs.Instruction.{All}
+use Rattle.machine.specs.Word.{Fits, encode}
+use Rattle.machine.proofs.Encoded.{encode-small}
+use Rattle.plans.specs.declared.Header.{Header}
+use Rattle.plans.specs.Limits.{far}
+use Rattle.plans.specs.Regions.{address}
+use Rattle.plans.specs.Outline.{Outline, start, instructions}
 use Rattle.plans.specs.Method1 as Method1
 use Rattle.plans.specs.Method2 as Method2
+use Rattle.plans.specs.Plan.{Accepted, instructionsOf, planOf, lengthOf}
+use Rattle.plans.proofs.Addresses.{fits-plan}
+use Rattle.plans.proofs.Blocks.{all-map}
 use Rattle.plans.proofs.Bounds.{square-le}
-use Rattle.plans.proofs.Outlines.{by-region}
-use Rattle.tables.proofs.Tabled.{Made}
-use Rattle.planner.specs.Tables.{envOf}
+use Rattle.plans.proofs.Figures.{length-plan}
+use Rattle.plans.proofs.Headers.{edges-small, instructions-one, instructions-two}
+use Rattle.rows.specs.Rows.{envOf}
+use Rattle.tables.specs.Writing.{Room, Wrote, linesWords, Writable}
+use Rattle.tables.proofs.Tabled as Tabled
+use Rattle.tables.proofs.Tabled.{SameRows}
 
--- Regions begin where they begin, and one that a method does not have at 0.
-made : (n m : ℕ) (name : (region place : ℕ) → ℕ) → ((r p : ℕ) → name r p ≡ name r 0 + p)
-    → ((r : ℕ) → name (suc (suc (suc (suc (suc (suc (suc r))))))) 0 ≡ 0) → Made n m (envOf n m name) name
-made n m name moves none =
-    record {
-      none = refl;
-      vertices = refl;
-      edges = refl;
-      others = refl;
-      named = by-region 7 (λ r. (p : ℕ) → name r p ≡ getD (envOf n m name) (4 + r) 0 + p) (
-        moves 0,
-        (
-          moves 1,
-          (
-            moves 2,
-            (
-              moves 3,
-              (
-                moves 4,
-                (
-                  moves 5,
-                  (
-                    moves 6,
-                    λ r p.
-                        omega (
-                          arith,
-                          moves (suc (suc (suc (suc (suc (suc (suc r))))))) p,
-                          none r,
-                          List·getD-eq-default (envOf n m name) 0 {n = 4 + suc (suc (suc (suc (suc (suc (suc r))))))} (omega arith),
-                        ),
-                  ),
-                ),
-              ),
-            ),
-          ),
-        ),
-      );
-    }
+-- ---- any method
 
-pub made1 : (n m : ℕ) → Made n m (envOf n m (Method1.address (Method1.places n m))) (Method1.address (Method1.places n m))
-made1 n m = made n m _ (by-region 7 _ (omega arith)) (λ r. refl)
+-- The header's plan is that of an outline over m edges, whose regions begin at `starts`.
+pub record Outlined (h : Header) (m : ℕ) (starts : List ℕ) (o : Outline) : Type 0 where
+  pub near : All (λ x. x < 2 ^ 19) (envOf (h .vertices) m starts)
+  pub is : instructionsOf h ≡ instructions (address starts) far (h .vertices) m (h .source) o start
 
-pub small1 : (n m : ℕ) → n ≤ 32 → m ≤ 128 → All (λ x. x < 2 ^ 19) (envOf n m (Method1.address (Method1.places n m)))
-small1 n m h l = omega arith
+module _ {h : Header} {m : ℕ} {starts : List ℕ} {o : Outline} (p : Outlined h m starts o) (a : Accepted h)
+    (lines : List ℕ) (rows : SameRows (h .vertices) (envOf (h .vertices) m starts) lines o) where
+  small : All (λ w. w < 2 ^ 64) (drop 1 (planOf h))
+  unfolding planOf
+  small = all-map Fits encode (λ w. w < 2 ^ 64) encode-small (instructionsOf h) (fits-plan h a)
 
-pub made2 : (n : ℕ) → Made n 0 (envOf n 0 (Method2.address (Method2.places n))) (Method2.address (Method2.places n))
-made2 n = made n 0 _ (by-region 7 _ (omega arith)) (λ r. refl)
+  pub may-write : (plan : List ℕ) → lengthOf h ≤ length plan
+      → Writable (h .vertices) (envOf (h .vertices) m starts) lines (h .source) plan 1
+  unfolding planOf
+  may-write plan room =
+      let words : Room (drop 1 (planOf h)) plan 1 = record { small = small; fits = omega (arith, length-plan h a) } in
+      Tabled.may-write (h .vertices) m (h .source) starts lines o rows
+      (omega (arith, a .vertices-few)) (p .near) (rw (p .is) at words)
 
-pub small2 : (n : ℕ) → n ≤ 32 → All (λ x. x < 2 ^ 19) (envOf n 0 (Method2.address (Method2.places n)))
-small2 n h = let s = square-le n h in omega arith
+  pub was-written : {plan after : List ℕ} {next : ℕ}
+      → Wrote (linesWords (h .vertices) (envOf (h .vertices) m starts) lines (h .source)) plan after 1 next
+      → Wrote (drop 1 (planOf h)) plan after 1 next
+  unfolding planOf
+  was-written w = rw (p .is) (Tabled.was-written (h .vertices) m (h .source) starts lines o rows w)
+
+-- ---- methods 1 and 2
+
+module _ (h : Header) (a : Accepted h) where
+  pub outlined1 : h .method ≡ 1 → Outlined h (h .edges) (Method1.starts (h .vertices) (h .edges)) Method1.outline
+  unfolding Method1.plan
+  outlined1 e =
+      record {
+        near = omega (arith, a .vertices-few, edges-small h a);
+        is = instructions-one h e;
+      }
+
+  pub outlined2 : h .method ≡ 2 → Outlined h 0 (Method2.starts (h .vertices)) Method2.outline
+  unfolding Method2.plan
+  outlined2 e =
+      record {
+        near = omega (arith, a .vertices-few, square-le (h .vertices) (a .vertices-few));
+        is = instructions-two h e;
+      }

@@ -1,7 +1,7 @@
 -- Document 01, "Who caused it", as facts about literal words: the order of the refusals in a header, and what writing a plan answers and leaves.
 -- Rests on the definitions alone.
 use mathlib.Core.Path.{_≡_}
-use mathlib.Core.List.{List, [], _∷_}
+use mathlib.Core.List.{List, [], _∷_, _++_}
 use mathlib.Core.Option.{Option, none, some}
 use Prim.Native.Nat.{ℕ}
 use lib.ListN.{length, replicate}
@@ -19,6 +19,18 @@ numberMet (some r) = r .number
 
 abbrev pub headerMeets : (word : ℕ) → ℕ
 headerMeets w = numberMet (headerRefusal (headerOf w))
+
+-- Document 01, "Requests at the edges", 1: the plan of method 1, n = 1, m = 0.
+abbrev pub smallestPlan : List ℕ
+smallestPlan =
+    0x1000010000000000
+    ∷ 0x0000020000000000
+    ∷ 0x0000000000000000
+    ∷ 0x000001FFFFFFFFFF
+    ∷ 0x0000034000000000
+    ∷ 0x00000A0000000000
+    ∷ 0x7000000000A00000
+    ∷ []
 
 -- What writing a plan answers, and the buffer that it leaves.
 abbrev pub writingAnswered : (header buffer : List ℕ) → Told
@@ -68,13 +80,4 @@ pub record Facts : Type 0 where
       × (writingAnswered (0x2000010000000000 ∷ []) (replicate 21 9) ≡ record { number = 0; place = none; values = 21 ∷ [] })
       × (writingAnswered (0x1000010000000000 ∷ 0 ∷ []) (replicate 9 9) ≡ record { number = 0; place = none; values = 7 ∷ [] })
       × (bufferLeft (0x1000010000000000 ∷ 0 ∷ []) (replicate 9 9)
-      ≡ 0x1000010000000000
-      ∷ 0x0000020000000000
-      ∷ 0x0000000000000000
-      ∷ 0x000001FFFFFFFFFF
-      ∷ 0x0000034000000000
-      ∷ 0x00000A0000000000
-      ∷ 0x7000000000A00000
-      ∷ 9
-      ∷ 9
-      ∷ [])
+      ≡ smallestPlan ++ (9 ∷ 9 ∷ []))

@@ -1,4 +1,4 @@
-pub mod Tables
+pub mod Figures
 pub mod Refusal
 pub mod Written
 pub mod Facts

@@ -1,4 +1,4 @@
-// The plan of a header: its length, the table of its method, and the plan written to a buffer.
+// The plan of a header: its figures, and the plan written to a buffer, by its method.
 // Rests on answers, plans and tables.
 mod method1;
 mod method2;
@@ -6,22 +6,34 @@ mod method2;
 use answers::Checked;
 use answers::Refusal;
 use plans::Header;
+use plans::Span;
 ghost use mathlib.Core.Path.{_≡_};
 ghost use Prim.Native.Nat.{_≤_};
 ghost use lib.ListN.{length, drop};
 ghost use Rattle.plans.specs.Limits.{knownMethod, mostEdges};
-ghost use Rattle.plans.specs.Plan.{headerOf, Accepted, planOf, verdictCell, lengthOf};
+ghost use Rattle.plans.specs.Plan.{headerOf, Accepted, planOf, lengthOf};
+ghost use Rattle.tables.specs.Writing.{Wrote};
 ghost use Rattle.answers.specs.Refusal.{found};
 ghost use Rattle.answers.specs.Buffers.{overwritten};
 ghost use Rattle.planner.specs.Refusal.{headerRefusal};
-ghost use Rattle.planner.specs.Tables.{cellIn};
+ghost use Rattle.planner.specs.Figures.{Figured};
 ghost use Rattle.planner.specs.Written.{WrittenPlan};
-ghost use Rattle.tables.specs.Table.{Emits};
 
 // Where the verdict is.
 pub enum VerdictCell {
     At(usize),
     Nothing,
+}
+
+// What follows from a header: the words after it, the plan's cells and words (the header word among them), the cell that its last word opens,
+// and the cells that results are copied from.
+pub struct Figures {
+    pub words: usize,
+    pub cells: usize,
+    pub length: usize,
+    pub verdict: VerdictCell,
+    pub distances: Span,
+    pub parents: Span,
 }
 
 // What writing a plan answers: its length, or a refusal.
@@ -81,40 +93,26 @@ pub fn check_header(h: Header) -> Checked
     Checked::Accepted
 }
 
-// The number of the plan's words, the header word among them.
-pub fn plan_length(h: Header) -> usize
+// Of the header's method.
+pub fn figures_of(h: Header) -> Figures
     requires { ⌜ Accepted h ⌝ }
-    ensures { λ r. ⌜ r ≡ lengthOf h ⌝ }
+    ensures { λ r. ⌜ Figured h r ⌝ }
 {
-    let n = h.vertices as usize;
-    let square = n * n;
     if h.method == 1 {
-        let m = h.edges as usize;
-        return 3 * n + 4 + m * (8 * square + 3 * n - 1);
+        return method1::figures(h);
     }
-    square * n + 11 * square + 6 * n + 3
+    method2::figures(h)
 }
 
-// The cell that the plan's last word opens, the verdict's, where there is one.
-pub fn verdict_cell(h: Header) -> VerdictCell
-    requires { ⌜ Accepted h ⌝ }
-    ensures { λ r. ⌜ cellIn r ≡ verdictCell h ⌝ }
+// The operation words of the header's plan, written after its header word; the plan's length.
+fn write_words(h: Header, plan: &mut [u64]) -> usize
+    requires { ⌜ Accepted h × (lengthOf h ≤ length (now plan)) ⌝ }
+    ensures { λ r. ⌜ Wrote (drop 1 (planOf h)) (now (plan .entry)) (now (plan .exit)) 1 r ⌝ }
 {
     if h.method == 1 {
-        return VerdictCell::At((3 * h.edges + 3 * h.vertices + 7) as usize);
+        return method1::write(h, plan);
     }
-    VerdictCell::Nothing
-}
-
-// The table of the header's plan; the number of its rows.
-fn table_of(h: Header, table: &mut [u64]) -> usize
-    requires { ⌜ Accepted h × (320 ≤ length (now table)) ⌝ }
-    ensures { λ r. ⌜ Emits (now (table .exit)) r (h .source) (drop 1 (planOf h)) ⌝ }
-{
-    if h.method == 1 {
-        return method1::table(h.vertices, h.edges, table);
-    }
-    method2::table(h.vertices, table)
+    method2::write(h, plan)
 }
 
 // The plan written to the start of a buffer; its length.
@@ -122,10 +120,8 @@ pub fn fill(h: Header, plan: &mut [u64]) -> usize
     requires { ⌜ Accepted h × (lengthOf h ≤ length (now plan)) ⌝ }
     ensures { λ r. ⌜ (r ≡ lengthOf h) × (now (plan .exit) ≡ overwritten (planOf h) (now (plan .entry))) ⌝ }
 {
-    let mut table = [0u64; 320];
-    let rows = table_of(h, &mut table);
     plan[0] = machine::pack(h.method, h.vertices, h.edges, h.source);
-    tables::words::write(&table, rows, h.source, plan, 1)
+    write_words(h, plan)
 }
 
 // The plan of a header, whose first word alone is looked at, written to the start of a buffer; refused, the buffer stays.
@@ -139,8 +135,8 @@ pub fn write_plan(header: &[u64], plan: &mut [u64]) -> Written
     if let Checked::Refused(refusal) = check_header(h) {
         return Written::Refused(refusal);
     }
-    let size = plan_length(h);
-    if plan.len() < size {
+    let f = figures_of(h);
+    if plan.len() < f.length {
         return Written::Refused(answers::LOG);
     }
     Written::Length(fill(h, plan))

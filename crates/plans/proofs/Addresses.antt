@@ -1,4 +1,5 @@
--- Which cells a plan names and which numbers it holds: all of a plan's cells are there, and every field of its words fits.
+-- Which cells a plan names and which numbers it holds: all of a plan's cells are there, those that results are copied from too, and every
+-- field of its words fits.
 -- Rests on outlines and on the machine's laws of words.
 use mathlib.Core.Bool.{Bool, true, false, cond}
 use Prim.Native.Nat.{ℕ, _+_, _*_, _^_, _<_, _≤_}
@@ -15,14 +16,16 @@ use Rattle.machine.proofs.Encoded.{admissible-encode}
 use Rattle.plans.specs.declared.Counters.{Counters}
 use Rattle.plans.specs.declared.Header.{Header}
 use Rattle.plans.specs.Limits.{far}
+use Rattle.plans.specs.Regions.{address}
 use Rattle.plans.specs.Outline as Outline
 use Rattle.plans.specs.Outline.{fixed, at, after, entry, small, minus-one, unreached, counted, from-source, Line, set, copy, add, less, equal, both, moveif, opens, Outline, counter, start, cellOf, numberOf, instructionOf, instructions}
 use Rattle.plans.specs.Method1 as Method1
 use Rattle.plans.specs.Method2 as Method2
-use Rattle.plans.specs.Plan.{Accepted, instructionsOf, planOf, cellsOf}
+use Rattle.plans.specs.Plan.{Accepted, instructionsOf, planOf, cellsOf, Kind, resultsOf}
 use Rattle.plans.proofs.Blocks.{all-both, all-map}
 use Rattle.plans.proofs.Outlines.{Under, once, under, Each, all-lines}
 use Rattle.plans.proofs.Bounds.{square-le}
+use Rattle.plans.proofs.EachKind.{each-kind}
 use Rattle.plans.proofs.Headers.{by-method}
 
 -- ---- what holds of an outline's cells and numbers, whatever the counters, holds of its plan's
@@ -102,16 +105,23 @@ unfolding instructionsOf cellsOf Method1.plan Method2.plan
 below-plan =
     by-method (λ h. (count : ℕ) → cellsOf h ≤ count → All (Below count) (instructionsOf h))
     (λ n m source a count l.
-    keeps _ _ (Method1.address (Method1.places n m)) far n m source Method1.outline
+    keeps _ _ (address (Method1.starts n m)) far n m source Method1.outline
     (search arith, (search arith, (search arith, (search arith, search arith)))))
     (λ n source a count l.
-    keeps _ _ (Method2.address (Method2.places n)) far n 0 source Method2.outline (search arith, search arith))
+    keeps _ _ (address (Method2.starts n)) far n 0 source Method2.outline (search arith, search arith))
 
 pub cells-few : (h : Header) → Accepted h → cellsOf h ≤ 1190
 unfolding cellsOf
 cells-few =
     by-method (λ h. cellsOf h ≤ 1190) (λ n m source a. omega arith)
     (λ n source a. omega (arith, square-le n (omega arith)))
+
+pub results-inside : (h : Header) → Accepted h → (k : Kind) → resultsOf h k .first + resultsOf h k .count ≤ cellsOf h
+unfolding resultsOf cellsOf
+results-inside =
+    by-method (λ h. (k : Kind) → resultsOf h k .first + resultsOf h k .count ≤ cellsOf h)
+    (λ n m source a. each-kind _ (omega arith) (omega arith))
+    (λ n source a. each-kind _ (omega arith) (omega arith))
 
 pub fits-plan : (h : Header) → Accepted h → All Fits (instructionsOf h)
 fits-plan h a = below-plan h a (2 ^ 20) (omega (arith, cells-few h a))

@@ -7,11 +7,11 @@ use Rattle.plans.specs.Blocks.{flat}
 use Rattle.plans.specs.Outline.{instructions}
 use Rattle.plans.specs.Method1 as Method1
 use Rattle.plans.specs.Method2 as Method2
-use Rattle.plans.specs.Plan.{headerOf, Accepted, instructionsOf, planOf, cellsOf, verdictCell}
+use Rattle.plans.specs.Plan.{headerOf, Accepted, instructionsOf, planOf, wordCountOf, cellsOf, resultsOf, verdictCell}
 use Rattle.plans.specs.Facts.{Facts}
 
 pub facts : Facts
-unfolding bitsOf packed packedSet flat instructions Method1.plan Method2.plan instructionsOf planOf cellsOf verdictCell
+unfolding bitsOf packed packedSet flat instructions Method1.plan Method2.plan instructionsOf planOf wordCountOf cellsOf resultsOf verdictCell
 facts =
     record {
       far-is = refl;
@@ -58,6 +58,8 @@ facts =
       source-past2 = λ (a : Accepted (headerOf 0x2000010000000001)). omega arith;
       weights = (refl, refl, refl);
       cells = (refl, refl, refl, refl);
+      words = (refl, refl);
+      results = (refl, refl, refl, refl, refl, refl, refl, refl);
       verdict = (refl, refl, refl);
       plan1 = refl;
       plan2 = refl;

@@ -11,8 +11,6 @@ use Rattle.machine.specs.Log.{rounds, roundsOf, sumOf}
 use Rattle.machine.proofs.Encoded.{rounds-encode}
 use Rattle.plans.specs.declared.Header.{Header}
 use Rattle.plans.specs.Limits.{far}
-use Rattle.plans.specs.Method1 as Method1
-use Rattle.plans.specs.Method2 as Method2
 use Rattle.plans.specs.Plan.{Accepted, instructionsOf, planOf, lengthOf, roundsOfPlan}
 use Rattle.plans.proofs.Blocks.{sum-ones, sum-map}
 use Rattle.plans.proofs.Weights.{plan1-weight, plan2-weight}

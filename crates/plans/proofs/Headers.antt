@@ -10,6 +10,7 @@ use lib.ListN.{length, length-map}
 use Rattle.machine.specs.Word.{encode}
 use Rattle.plans.specs.declared.Header.{Header}
 use Rattle.plans.specs.Limits.{far, knownMethod}
+use Rattle.plans.specs.Regions.{address}
 use Rattle.plans.specs.Method1 as Method1
 use Rattle.plans.specs.Method2 as Method2
 use Rattle.plans.specs.Plan.{Accepted, instructionsOf, planOf}
@@ -59,12 +60,12 @@ fields-small =
 module _ (h : Header) where
   pub instructions-one : h .method ≡ 1
       → instructionsOf h
-      ≡ Method1.plan (Method1.places (h .vertices) (h .edges)) far (h .vertices) (h .edges) (h .source)
+      ≡ Method1.plan (address (Method1.starts (h .vertices) (h .edges))) far (h .vertices) (h .edges) (h .source)
   unfolding instructionsOf
   instructions-one e = rw e
 
   pub instructions-two : h .method ≡ 2
-      → instructionsOf h ≡ Method2.plan (Method2.places (h .vertices)) far (h .vertices) (h .source)
+      → instructionsOf h ≡ Method2.plan (address (Method2.starts (h .vertices))) far (h .vertices) (h .source)
   unfolding instructionsOf
   instructions-two e = rw e
 

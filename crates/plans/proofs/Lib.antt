@@ -2,6 +2,7 @@ pub mod Blocks
 pub mod Outlines
 pub mod Weights
 pub mod Bounds
+pub mod EachKind
 pub mod Headers
 pub mod Same
 pub mod Addresses

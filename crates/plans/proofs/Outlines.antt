@@ -2,7 +2,7 @@
 -- Rests on blocks.
 use mathlib.Core.Path.{_≡_, refl, sym, ap, ap₂, _∙_}
 use mathlib.Core.List.{List, [], _∷_, _++_, map, map-append, append-assoc}
-use Prim.Native.Nat.{ℕ, zero, suc, _<_}
+use Prim.Native.Nat.{ℕ, _<_}
 use lib.IntN.{ℤ}
 use Rattle.machine.specs.Instruction.{Instruction, SET, COPY, ADD, LESS, EQUAL, BOTH, MOVEIF, OPEN, All}
 use Rattle.plans.specs.declared.Counters.{Counters}
@@ -127,15 +127,3 @@ module _ {A : Type 0} (name : (region place : ℕ) → A) (far : ℤ) (n m sourc
       further (flat (timesOf n m c) (λ j. instructions name far n m source b (counted-to l j k))) _ (before-last e)
   before-last (past-again {c} {b} e) =
       further (flat (timesOf n m c) (λ j. instructions name far n m source b k)) _ (before-last e)
-
--- ---- what holds of all regions
-
--- P holds of each of the first `count` regions, and of all that follow.
-abbrev pub EachRegion : (count : ℕ) (P : ℕ → Type 0) → Type 0
-EachRegion zero P = (r : ℕ) → P r
-EachRegion (suc count) P = P 0 × EachRegion count (λ r. P (suc r))
-
-pub by-region : (count : ℕ) (P : ℕ → Type 0) → EachRegion count P → (r : ℕ) → P r
-by-region zero P h r = h r
-by-region (suc count) P h zero = h .0
-by-region (suc count) P h (suc r) = by-region count (λ r. P (suc r)) (h .1) r

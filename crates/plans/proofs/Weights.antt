@@ -64,21 +64,21 @@ module _ {A : Type 0} (name : (region place : ℕ) → A) (far : ℤ) (n m sourc
 
 -- ---- the methods
 
-pub plan1-weight : {A : Type 0} (c : Method1.Places A) (far : ℤ) (n : ℕ) (w : ℕ → ℕ) (m source : ℕ) → 0 < n
-    → weigh w (Method1.plan c far n m source)
+pub plan1-weight : {A : Type 0} (name : (region place : ℕ) → A) (far : ℤ) (n : ℕ) (w : ℕ → ℕ) (m source : ℕ) → 0 < n
+    → weigh w (Method1.plan name far n m source)
     ≡ n * (3 * w 0)
     + 2 * w 0
     + m * (n * n * (w 3 + 2 * w 4 + 2 * w 5 + 3 * w 6) + n * (w 0 + w 1 + w 2 + w 3) - (n * w 6 + w 0))
     + w 7
 unfolding Method1.plan sumOf
-plan1-weight c far (suc n) w m source some =
+plan1-weight name far (suc n) w m source some =
     let e : suc n - 1 ≡ n = omega arith in
-    outline-weight (Method1.address c) far (suc n) m source w Method1.outline start
+    outline-weight name far (suc n) m source w Method1.outline start
     ∙ simp (e, mul-sub) (omega arith)
 
-pub plan2-weight : {A : Type 0} (c : Method2.Places A) (far : ℤ) (n : ℕ) (w : ℕ → ℕ) (source : ℕ)
-    → weigh w (Method2.plan c far n source)
+pub plan2-weight : {A : Type 0} (name : (region place : ℕ) → A) (far : ℤ) (n : ℕ) (w : ℕ → ℕ) (source : ℕ)
+    → weigh w (Method2.plan name far n source)
     ≡ n * n * n * w 6 + n * n * (w 1 + w 2 + 2 * w 3 + w 4 + w 5 + 5 * w 6) + n * (5 * w 0 + w 1) + 2 * w 0
 unfolding Method2.plan sumOf
-plan2-weight c far n w source =
-    outline-weight (Method2.address c) far n 0 source w Method2.outline start ∙ omega arith
+plan2-weight name far n w source =
+    outline-weight name far n 0 source w Method2.outline start ∙ omega arith

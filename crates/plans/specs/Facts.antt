@@ -6,7 +6,7 @@ use mathlib.Core.Option.{none, some}
 use Prim.Native.Nat.{ℕ}
 use lib.IntN.{pos, negsuc}
 use Rattle.plans.specs.Limits.{far, mostWeight, leastWeight}
-use Rattle.plans.specs.Plan.{headerOf, headerWord, Accepted, planOf, cellsOf, verdictCell}
+use Rattle.plans.specs.Plan.{headerOf, headerWord, Accepted, planOf, wordCountOf, cellsOf, distances, parents, span, resultsOf, verdictCell}
 
 -- ---- "Plan of method 1" at n = 2, m = 2, source 1. Cells: from 0, to 2, price 4, D at 6, P at 8, Y at 10, X at 12.
 
@@ -117,6 +117,17 @@ pub record Facts : Type 0 where
       × (cellsOf (headerOf 0x1000020000200001) ≡ 20)
       × (cellsOf (headerOf 0x200020000000001F) ≡ 1190)
       × (cellsOf (headerOf 0x2000020000000001) ≡ 20)
+  -- "m lane words", "n × n words": at the limits.
+  pub words : (wordCountOf (headerOf 0x100020000800001F) ≡ 128) × (wordCountOf (headerOf 0x200020000000001F) ≡ 1024)
+  -- "Results: n distances and n parents", "D+v and P+v": D at 3m and P at 3m+n, D at n² and P at n²+n, at the limits and at the plans below.
+  pub results : (resultsOf (headerOf 0x100020000800001F) distances ≡ span 384 32)
+      × (resultsOf (headerOf 0x100020000800001F) parents ≡ span 416 32)
+      × (resultsOf (headerOf 0x1000020000200001) distances ≡ span 6 2)
+      × (resultsOf (headerOf 0x1000020000200001) parents ≡ span 8 2)
+      × (resultsOf (headerOf 0x200020000000001F) distances ≡ span 1024 32)
+      × (resultsOf (headerOf 0x200020000000001F) parents ≡ span 1056 32)
+      × (resultsOf (headerOf 0x2000020000000001) distances ≡ span 4 2)
+      × (resultsOf (headerOf 0x2000020000000001) parents ≡ span 6 2)
   -- "OPEN X+7: the verdict": at the plans below and at the limits; method 2 has none.
   pub verdict : (verdictCell (headerOf 0x1000020000200001) ≡ some 19)
       × (verdictCell (headerOf 0x100020000800001F) ≡ some 487)

@@ -1,5 +1,6 @@
 pub mod Limits
 pub mod Blocks
+pub mod Regions
 pub mod Outline
 pub mod Method1
 pub mod Method2

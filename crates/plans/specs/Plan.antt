@@ -1,5 +1,6 @@
--- The plan of a header, as words: it follows from the header alone. Its length, its rounds and the cells it needs, as document 01 gives them.
--- Rests on the methods' plans and on the machine's words.
+-- The plan of a header, as words: it follows from the header alone. Its length, its rounds, the cells it needs and those that results are
+-- copied from, as document 01 gives them. Rests on the methods' plans and on the machine's words.
+use mathlib.Core.Bool.{Bool, _&&_}
 use mathlib.Core.List.{List, [], _∷_, map}
 use mathlib.Core.Option.{Option, none, some}
 use Prim.Native.Nat.{ℕ, _+_, _-_, _*_, _<_, _≤_}
@@ -8,7 +9,9 @@ use Rattle.fields.specs.Fields.{fieldOf}
 use Rattle.machine.specs.Instruction.{Instruction}
 use Rattle.machine.specs.Word.{packed, encode}
 use Rattle.plans.specs.declared.Header.{Header}
+use Rattle.plans.specs.declared.Span.{Span}
 use Rattle.plans.specs.Limits.{far, byMethod, knownMethod, mostVertices, mostEdges}
+use Rattle.plans.specs.Regions.{address, cell}
 use Rattle.plans.specs.Method1 as Method1
 use Rattle.plans.specs.Method2 as Method2
 
@@ -28,11 +31,15 @@ pub record Accepted (h : Header) : Type 0 where
   pub edges-few : h .edges ≤ mostEdges (h .method)
   pub source-there : h .source < h .vertices
 
+-- How many words of a request follow the header.
+unfoldable pub wordCountOf : Header → ℕ
+wordCountOf h = byMethod (h .method) 0 (h .edges ∷ (h .vertices * h .vertices) ∷ [])
+
 unfoldable pub instructionsOf : Header → List (Instruction ℕ)
 instructionsOf h =
     byMethod (h .method) []
-    (Method1.plan (Method1.places (h .vertices) (h .edges)) far (h .vertices) (h .edges) (h .source)
-    ∷ Method2.plan (Method2.places (h .vertices)) far (h .vertices) (h .source)
+    (Method1.plan (address (Method1.starts (h .vertices) (h .edges))) far (h .vertices) (h .edges) (h .source)
+    ∷ Method2.plan (address (Method2.starts (h .vertices))) far (h .vertices) (h .source)
     ∷ [])
 
 -- The plan: the header word, then the operation words.
@@ -43,9 +50,35 @@ planOf h = headerWord h ∷ map encode (instructionsOf h)
 unfoldable pub cellsOf : Header → ℕ
 cellsOf h = byMethod (h .method) 0 (Method1.cellCount (h .vertices) (h .edges) ∷ Method2.cellCount (h .vertices) ∷ [])
 
+-- The kinds of results, a lent buffer for each.
+pub data Kind : Type 0 where
+  distances parents : Kind
+
+-- What a kind has of a row of values, in the kinds' order.
+abbrev pub byKind {ℓ} : {X : Type ℓ} → (distances parents : X) → Kind → X
+byKind d p distances = d
+byKind d p parents = p
+
+-- Whether it is so of every kind.
+abbrev pub everyKind : (Kind → Bool) → Bool
+everyKind f = f distances && f parents
+
+-- `count` cells from the first one on.
+abbrev pub span : (first count : ℕ) → Span
+span first count = record { first = first; count = count }
+
+-- The cells that results of a kind are copied from, in their order, where a run gives them.
+unfoldable pub resultsOf : Header → Kind → Span
+resultsOf h =
+    let n = h .vertices in
+    byMethod (h .method) (λ k. span 0 0)
+    (byKind (span (cell (Method1.starts n (h .edges)) (Method1.D 0)) n) (span (cell (Method1.starts n (h .edges)) (Method1.P 0)) n)
+    ∷ byKind (span (cell (Method2.starts n) (Method2.D 0)) n) (span (cell (Method2.starts n) (Method2.P 0)) n)
+    ∷ [])
+
 -- The cell that its last word opens, the verdict's; none in a method without a verdict.
 unfoldable pub verdictCell : Header → Option ℕ
-verdictCell h = byMethod (h .method) none (some (Method1.places (h .vertices) (h .edges) .X 7) ∷ none ∷ [])
+verdictCell h = byMethod (h .method) none (some (cell (Method1.starts (h .vertices) (h .edges)) (Method1.X 7)) ∷ none ∷ [])
 
 -- The words that a run publishes: the verdict, where there is a cell for it.
 abbrev pub published : Option ℕ → (verdict : ℕ) → List ℕ

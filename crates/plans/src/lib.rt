@@ -20,6 +20,12 @@ pub struct Header {
     pub source: u64,
 }
 
+// A row of cells: `count` of them, from cell `first` on.
+pub struct Span {
+    pub first: usize,
+    pub count: usize,
+}
+
 // The counters of the loops around a line of a plan, the outermost first.
 pub struct Counters {
     pub outer: u64,

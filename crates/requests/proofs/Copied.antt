@@ -1,14 +1,18 @@
--- A buffer whose first places are written over, one after the other: the loop that does it, and what each place then holds.
--- Rests on blocks and on answers' Filled.
-use mathlib.Core.Path.{_≡_, sym, ap, _∙_}
+-- A buffer written over, its first places or those from a place on, one after the other: the loops that do it, and what each place then holds.
+-- Rests on blocks, on answers' Filled and on fields' Sets.
+use mathlib.Core.Path.{_≡_, refl, sym, ap, _∙_}
+use mathlib.Core.Logic.{⊎-elim}
 use mathlib.Core.List.{List, [], _∷_, _++_}
-use Prim.Native.Nat.{ℕ, _+_, _-_, _^_, _<_, _≤_}
+use Prim.Native.Nat.{ℕ, zero, suc, _+_, _-_, _^_, _<_, _≤_}
+use native.Mathlib.Nat.{eq-or-lt-of-le, eq-zero-or-pos, le-of-suc-le-suc, not-suc-le-zero}
+use native.Mathlib.Numerals.{add-one}
 use native.Mathlib.Omega.{arith}
 use lib.IntN.{ℤ, pos}
 use lib.ListN.{length, set, getD, drop, length-append, length-drop, List·getD-append}
-use lib.Seq.{drop-at, getD-append-add, getD-drop}
+use lib.Seq.{sets, length-sets, drop-at, getD-append-add, getD-drop, getD-set-same, getD-set-other}
 use lib.Signed.{mag}
 use Rattle.answers.proofs.Filled.{Filling, again, done}
+use Rattle.fields.proofs.Sets.{sets-append}
 use Rattle.machine.proofs.Tested.{back, kept}
 use Rattle.plans.specs.Blocks.{flat}
 use Rattle.plans.proofs.Blocks.{ones-length, ones-at}
@@ -58,3 +62,47 @@ module _ (count : ℕ) (f : ℕ → ℤ) where
         ∙ getD-append-add ones (drop count buffer) (k - count) (pos 0)
         ∙ getD-drop count buffer (k - count) (pos 0)
         ∙ ap (λ (j : ℕ). getD buffer j (pos 0)) d
+
+-- Where two agree on a place, it holds the same.
+pub copied-same : (count : ℕ) (f g : ℕ → ℤ) (buffer : List ℤ) (k : ℕ) → f k ≡ g k
+    → getD (copied count f buffer) k (pos 0) ≡ getD (copied count g buffer) k (pos 0)
+copied-same count f g buffer k e =
+    ⊎-elim
+    (λ (z : count - k ≡ 0). copied-rest count f buffer k (omega arith) ∙ sym (copied-rest count g buffer k (omega arith)))
+    (λ (l : 0 < count - k). copied-at count f buffer k (omega arith) ∙ e ∙ sym (copied-at count g buffer k (omega arith)))
+    (eq-zero-or-pos (count - k))
+
+-- ---- from a place on
+
+module _ (f : ℕ → ℤ) (buffer : List ℤ) (at : ℕ) where
+  more : (i : ℕ) → sets buffer at (ones (suc i) f) ≡ set (sets buffer at (ones i f)) (at + i) (f i)
+  unfolding flat
+  more i =
+      sets-append buffer at (ones i f) (f i ∷ [])
+      ∙ ap (λ (j : ℕ). set (sets buffer at (ones i f)) (at + j) (f i)) (ones-length f i)
+
+  -- The loop; v is the number that the code has for the i-th.
+  pub one-set : (now : List ℤ) (i : ℕ) (v : ℤ) → mag v < 2 ^ 63 → v ≡ f i → now ≡ sets buffer at (ones i f)
+      → set now (at + i) (back v) ≡ sets buffer at (ones (i + 1) f)
+  one-set now i v small e h = rw (add-one i, more i, h, kept v small, e)
+
+  -- What each place then holds.
+  pub set-at : (count i : ℕ) → i < count → at + count ≤ length buffer → getD (sets buffer at (ones count f)) (at + i) (pos 0) ≡ f i
+  set-at zero i l room = absurd (not-suc-le-zero l)
+  set-at (suc count) i l room =
+      let n = length-sets buffer at (ones count f) in
+      rw (more count)
+      (⊎-elim
+      (λ (e : i ≡ count). rw e (getD-set-same (sets buffer at (ones count f)) (at + count) (f count) (pos 0) (omega arith)))
+      (λ (h : i < count).
+      getD-set-other (sets buffer at (ones count f)) (at + count) (at + i) (f count) (pos 0) (λ e. omega arith)
+      ∙ set-at count i h (omega arith))
+      (eq-or-lt-of-le (le-of-suc-le-suc l)))
+
+  pub set-beside : (count k : ℕ) → (at ≤ k → at + count ≤ k) → getD (sets buffer at (ones count f)) k (pos 0) ≡ getD buffer k (pos 0)
+  unfolding flat
+  set-beside zero k h = refl
+  set-beside (suc count) k h =
+      rw (more count)
+      (getD-set-other (sets buffer at (ones count f)) (at + count) k (f count) (pos 0) (λ e. omega (arith, h (omega arith)))
+      ∙ set-beside count k (λ l. omega (arith, h l)))

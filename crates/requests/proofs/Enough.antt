@@ -2,12 +2,12 @@
 -- told are enough, and a shorter one is refused with 6, 7 or 8. Rests on Order and WithinLimits.
 use mathlib.Core.Path.{_≡_, refl, sym, ap, _∙_}
 use mathlib.Core.Logic.{_↔_}
-use mathlib.Core.Bool.{_&&_}
+use mathlib.Core.Bool.{Bool}
 use mathlib.Core.List.{List, [], _∷_}
 use mathlib.Core.Option.{Option, none, some}
 use Prim.Native.Nat.{ℕ, _≤_}
 use native.Mathlib.Omega.{arith}
-use lib.Dec.{leb}
+use lib.Dec.{leb, le→leb}
 use lib.ListN.{length, getD}
 use borrow.Author.Tests.{eq-eqb, le-leb}
 use Rattle.answers.specs.declared.Refusal.{Refusal}
@@ -16,14 +16,17 @@ use Rattle.answers.specs.declared.Checked.the-variants as Checked
 use Rattle.answers.specs.Refusal.{Method, Cells, Log, Results, need, found, orElse}
 use Rattle.answers.specs.Told.{Told, refused}
 use Rattle.plans.specs.declared.Header.{Header}
-use Rattle.plans.specs.Plan.{cellsOf}
+use Rattle.answers.proofs.Unmet.{need-none}
+use Rattle.plans.specs.Plan.{wordCountOf, Kind, distances, parents, everyKind}
+use Rattle.plans.proofs.EachKind.{each-kind, every-kind}
 use Rattle.planner.specs.Refusal.{headerRefusal}
-use Rattle.requests.specs.Refusal.{wordCountOf, logLengthOf, sizesRefusal, wordsRefusal, requestRefusal}
-use Rattle.requests.specs.Sizes.{asking, askedBy, sizesTold}
+use Rattle.requests.specs.declared.Lengths.{Lengths}
+use Rattle.requests.specs.Refusal.{roomFor, sizesRefusal, wordsRefusal, requestRefusal}
+use Rattle.requests.specs.Sizes.{asking, askedOf, askedBy, sizesTold}
 use Rattle.requests.specs.WithinLimits.{headerIn, wordsIn, WithinLimits}
-use Rattle.requests.proofs.Sizes.{sizes-met}
+use Rattle.requests.proofs.Sizes.{Sized, sizes-none}
 use Rattle.requests.proofs.Order.{in-order}
-use Rattle.requests.proofs.WithinLimits.{all-none, counted-in, cells-in, log-in, within}
+use Rattle.requests.proofs.WithinLimits.{all-none, counted-in, cells-in, log-in, results-in, within}
 
 -- ---- the ways out
 
@@ -43,67 +46,68 @@ module _ (header : List ℕ) (some-word : length header ≡ 0 → ⊥) (h : Head
   pub header-refused : (r : Refusal) → s ≡ Checked.Refused r → refused r ≡ sizesTold header
   header-refused r e = rw (asked header some-word, ← is, ← checked, e)
 
-  pub header-asks : (cells log : ℕ) → s ≡ Checked.Accepted → cells ≡ cellsOf h → log ≡ logLengthOf h
-      → asking cells log (h .vertices) ≡ sizesTold header
-  header-asks cells log e c l = rw (asked header some-word, ← is, ← checked, e, c, l)
+  pub header-asks : (l : Lengths) → s ≡ Checked.Accepted → l ≡ askedOf h → asking l ≡ sizesTold header
+  header-asks l e a = rw (asked header some-word, ← is, ← checked, e, a)
 
 -- ---- what is told is what a request needs
 
-module _ (request : List ℕ) (cells log distances parents : ℕ) (w : WithinLimits request cells log distances parents) where
+module _ (request : List ℕ) (lent : Lengths) (w : WithinLimits request lent) where
   -- A request that runs in whatever buffers has a header word, and neither header nor words meet a refusal.
   unmet : (length request ≡ 0 → ⊥)
       × (headerRefusal (headerIn request) ≡ none)
       × (wordsRefusal (headerIn request) 0 (wordsIn request) ≡ none)
   unmet =
       let some-word : length request ≡ 0 → ⊥ = omega (arith, w .some-word) in
-      let (header, _, words) = all-none _ _ _ _ _ some-word .0 (within request cells log distances parents .1 w) in
+      let (header, _, words) = all-none _ _ some-word .0 (within request lent .1 w) in
       (some-word, header, words)
 
   -- So it is told sizes.
-  pub told-in : sizesTold request ≡ askedBy none (headerIn request)
+  pub told-in : sizesTold request ≡ asking (askedOf (headerIn request))
   told-in = let (some-word, header, _) = unmet in asked request some-word ∙ rw header
 
   -- Namely these.
-  numbers : (c l n : ℕ) → sizesTold request ≡ asking c l n
-      → (cellsOf (headerIn request) ≡ c) × (logLengthOf (headerIn request) ≡ l) × (headerIn request .vertices ≡ n)
-  numbers c l n told =
-      let e : askedBy none (headerIn request) ≡ asking c l n = sym told-in ∙ told in (
-        ap (λ (t : Told). getD (t .values) 0 0) e,
-        ap (λ (t : Told). getD (t .values) 1 0) e,
-        ap (λ (t : Told). getD (t .values) 2 0) e,
-      )
+  numbers : (l : Lengths) → sizesTold request ≡ asking l → askedOf (headerIn request) ≡ l
+  numbers l told =
+      let e : asking (askedOf (headerIn request)) ≡ asking l = sym told-in ∙ told in
+      let value : ℕ → Told → ℕ = λ i t. getD (t .values) i 0 in
+      λ i. record { cells = ap (value 0) e i; log = ap (value 1) e i; distances = ap (value 2) e i; parents = ap (value 3) e i }
 
 alone : (o : Option Refusal) → orElse o none ≡ o
 alone none = refl
 alone (some r) = refl
 
-module _ (request : List ℕ) (c l n : ℕ) (told : sizesTold request ≡ asking c l n) (cells log distances parents : ℕ) where
+module _ (request : List ℕ) (needed : Lengths) (told : sizesTold request ≡ asking needed) (lent : Lengths) where
   -- A request that runs in buffers of the lengths told meets, in others, 6, 7 or 8 for one that is shorter, and nothing else.
-  pub by-length : WithinLimits request c l n n
-      → requestRefusal request cells log distances parents
-      ≡ need (leb c cells) Cells (need (leb l log) Log (need (leb n distances && leb n parents) Results none))
+  pub by-length : WithinLimits request needed
+      → requestRefusal request lent
+      ≡ need (leb (needed .cells) (lent .cells)) Cells
+      (need (leb (needed .log) (lent .log)) Log
+      (need (everyKind (λ k. leb (roomFor needed k) (roomFor lent k))) Results none))
   unfolding sizesRefusal
   by-length w =
-      let (some-word, header, words) = unmet request c l n n w in
-      let count = eq-eqb _ (wordCountOf (headerIn request)) (counted-in _ _ _ _ _ w) in
-      let (cs, ls, ns) = numbers request c l n n w c l n told in
-      in-order request cells log distances parents some-word ∙ rw (header, words, count, cs, ls, ns) (alone _)
+      let (some-word, header, words) = unmet request needed w in
+      let count = eq-eqb _ (wordCountOf (headerIn request)) (counted-in _ _ w) in
+      rw (← numbers request needed w needed told) (in-order request lent some-word ∙ rw (header, words, count) (alone _))
 
   -- It runs in lent buffers exactly where it runs in those and no lent one is shorter.
-  pub enough : WithinLimits request cells log distances parents
-      ↔ (WithinLimits request c l n n × (c ≤ cells) × (l ≤ log) × (n ≤ distances) × (n ≤ parents))
+  pub enough : WithinLimits request lent
+      ↔ (WithinLimits request needed
+      × (needed .cells ≤ lent .cells)
+      × (needed .log ≤ lent .log)
+      × ((k : Kind) → roomFor needed k ≤ roomFor lent k))
   enough = (
     λ w.
-        let (some-word, header, words) = unmet request cells log distances parents w in
-        let (cs, ls, ns) = numbers request cells log distances parents w c l n told in
-        let met = sizes-met (headerIn request) _ c l n n (counted-in _ _ _ _ _ w) (omega arith) (omega arith) (omega arith) (omega arith) in (
-          within request c l n n .0 (all-none request c l n n some-word .1 (header, sym met, words)),
-          rw cs at (cells-in _ _ _ _ _ w),
-          rw ls at (log-in _ _ _ _ _ w),
-          rw ns at (w .limits .distances-enough),
-          rw ns at (w .limits .parents-enough),
-        ),
-    λ (w, cs, ls, ds, ps).
-        within request cells log distances parents .0
-        (by-length w ∙ rw (le-leb c cells cs, le-leb l log ls, le-leb n distances ds, le-leb n parents ps)),
+        let h = headerIn request in
+        let (some-word, header, words) = unmet request lent w in
+        let sized : Sized h _ (askedOf h) =
+        record { counted = counted-in _ _ w; cells = omega arith; log = omega arith; results = each-kind _ (omega arith) (omega arith) } in
+        let runs = within request (askedOf h) .0 (all-none request (askedOf h) some-word .1 (header, sizes-none h _ _ .1 sized, words)) in
+        rw (← numbers request lent w needed told) (runs, cells-in _ _ w, log-in _ _ w, each-kind _ (results-in _ _ w distances) (results-in _ _ w parents)),
+    λ (w, cells, log, results).
+        let long : Kind → Bool = λ k. leb (roomFor needed k) (roomFor lent k) in
+        within request lent .0
+        (by-length w
+        ∙ rw (le-leb (needed .cells) (lent .cells) cells, le-leb (needed .log) (lent .log) log)
+        (need-none (everyKind long) Results none .1
+        (every-kind long .1 (λ k. le→leb (roomFor needed k) (roomFor lent k) (results k)), refl))),
   )

@@ -1,139 +1,215 @@
--- The starting cells: what each starts with, by the ways out of `start_cell`; how `lay` lays them; and what each cell then holds.
--- Rests on Sizes, on blocks, and on the laws of signed numbers.
-use mathlib.Core.Path.{_≡_, refl, ap, _∙_}
+-- The starting cells: which source each has, how strips laid one after the other give them, and what each cell then holds.
+-- Rests on Sizes and Copied.
+use mathlib.Core.Path.{_≡_, refl, sym, ap, _∙_}
+use mathlib.Core.Logic.{_⊎_, inl, inr, ⊎-elim}
 use mathlib.Core.Bool.{Bool, true, false, cond}
-use mathlib.Core.List.{List}
-use Prim.Native.Nat.{ℕ, _+_, _-_, _*_, _^_, _<_, _≤_}
+use mathlib.Core.List.{List, [], _∷_, _++_}
+use Prim.Native.Nat.{ℕ, zero, suc, _+_, _-_, _*_, _<_, _≤_, zero-le}
+use native.Mathlib.Nat.{zero-add}
+use native.Mathlib.Numerals.{add-one}
 use native.Mathlib.Omega.{arith}
 use lib.Arith.{digits-lt}
-use lib.IntN.{ℤ, pos, negsuc}
-use lib.ListN.{length, getD, drop, length-drop}
-use lib.Seq.{getD-drop}
-use lib.Signed.{mag}
-use mir.Syntax.{w64}
-use mir.Val.{toZ, ofZ}
-use mir.Facts.{toZ-pos, sfits-lit}
-use borrow.Author.Tests.{lt-ltb, le-ltb}
-use Rattle.machine.specs.Effect.{eqZ, cellAt}
-use Rattle.machine.proofs.Tested.{back, kept, eq-test, ne-test}
+use lib.Dec.{leb, ltb}
+use lib.IntN.{ℤ, pos}
+use lib.ListN.{length, getD, drop, replicate, drop-of-length-le}
+use lib.Seq.{sets, length-sets, drop-cons, getD-drop, ext-getD}
+use borrow.Author.Tests.{leb-true, leb-false, ltb-true, ltb-false}
+use Rattle.machine.specs.Effect.{cellAt}
+use Rattle.machine.specs.Instruction.{All}
 use Rattle.plans.specs.declared.Header.{Header}
-use Rattle.plans.specs.Limits.{far}
+use Rattle.plans.specs.Blocks.{flat}
+use Rattle.plans.specs.Regions.{cell}
 use Rattle.plans.specs.Method1 as Method1
 use Rattle.plans.specs.Method2 as Method2
-use Rattle.plans.specs.Plan.{cellsOf}
+use Rattle.plans.specs.Plan.{Accepted, wordCountOf, cellsOf}
+use Rattle.plans.proofs.Headers.{by-method}
+use Rattle.requests.specs.declared.intake.Part.the-variants.{From, To, Weight, Entry}
+use Rattle.requests.specs.declared.intake.Strip.{Strip}
 use Rattle.requests.specs.Word.{fromField, toField, weightOf}
-use Rattle.requests.specs.Refusal.{wordCountOf}
-use Rattle.requests.specs.Intake.{Part, from, to, weight, entry, Source, field, nothing, sourceOf, orFar, partOf, laid, startingCells}
-use Rattle.requests.proofs.Copied.{copied-long, copied-at, copied-rest}
-use Rattle.requests.proofs.Sizes.{words-one, words-two, cells-one, cells-two}
+use Rattle.requests.specs.Intake.{strip, stripsOf, Source, nothing, sourceIn, covers, sourceFrom, sourceOf, orFar, partOf, laid, copied, startingCells, numbersOf, Fits, empty, mostStrips, padded}
+use Rattle.requests.proofs.Copied.{ones, copied-long, copied-at, copied-rest, copied-same, set-at, set-beside}
+use Rattle.requests.proofs.Sizes.{cells-one, cells-two}
 
 -- ---- which source a cell has
 
-module _ (h : Header) (k : ℕ) where
-  module _ (one : h .method ≡ 1) where
-    source-from : k < h .edges → sourceOf h k ≡ field k from
-    unfolding sourceOf
-    source-from l = rw (one, lt-ltb k (h .edges) l)
+abbrev Beside : (k : ℕ) → Strip → Type 0
+Beside k r = r .at ≤ k → r .at + r .count ≤ k
 
-    source-to : (i : ℕ) → k ≡ h .edges + i → i < h .edges → sourceOf h k ≡ field i to
-    unfolding sourceOf
-    source-to i e l =
-        let d : k - h .edges ≡ i = omega arith in
-        rw (one, le-ltb k (h .edges) (omega arith), lt-ltb k (2 * h .edges) (omega arith), d)
+module _ (k : ℕ) where
+  in-or-beside : (r : Strip) → ((covers r k ≡ true) × (r .at ≤ k) × (k < r .at + r .count)) ⊎ ((covers r k ≡ false) × Beside k r)
+  in-or-beside r = split (leb (r .at) k) (ltb k (r .at + r .count)) refl refl
+    where
+      split : (a b : Bool) → leb (r .at) k ≡ a → ltb k (r .at + r .count) ≡ b
+          → ((covers r k ≡ true) × (r .at ≤ k) × (k < r .at + r .count)) ⊎ ((covers r k ≡ false) × Beside k r)
+      split true true p q = inl (rw (p, q), leb-true _ _ p, ltb-true _ _ q)
+      split true false p q = inr (rw (p, q), λ l. ltb-false _ _ q)
+      split false b p q = inr (rw p, λ l. omega (arith, leb-false (r .at) k p))
 
-    source-weight : (i : ℕ) → k ≡ 2 * h .edges + i → i < h .edges → sourceOf h k ≡ field i weight
-    unfolding sourceOf
-    source-weight i e l =
-        let d : k - 2 * h .edges ≡ i = omega arith in
-        rw (
-          one,
-          le-ltb k (h .edges) (omega arith),
-          le-ltb k (2 * h .edges) (omega arith),
-          lt-ltb k (3 * h .edges) (omega arith),
-          d,
-        )
+  -- No strip covers it.
+  source-beside : (rs : List Strip) (s : Source) → All (Beside k) rs → sourceFrom rs k s ≡ s
+  source-beside [] s b = refl
+  source-beside (r ∷ rs) s b =
+      ⊎-elim (λ i. let no : ⊥ = omega (arith, b .0 (i .1)) in absurd no) (λ o. rw (o .0) (source-beside rs s (b .1))) (in-or-beside r)
 
-    source-none : 3 * h .edges ≤ k → sourceOf h k ≡ nothing
-    unfolding sourceOf
-    source-none l =
-        rw (one, le-ltb k (h .edges) (omega arith), le-ltb k (2 * h .edges) (omega arith), le-ltb k (3 * h .edges) l)
+  -- It is the i-th of strip r, and no later one covers it.
+  source-in : (rs₀ : List Strip) (r : Strip) (rs : List Strip) (i : ℕ) (s : Source) → k ≡ r .at + i → i < r .count → All (Beside k) rs
+      → sourceFrom (rs₀ ++ (r ∷ rs)) k s ≡ sourceIn r i
+  source-in [] r rs i s e l b =
+      let d : k - r .at ≡ i = omega arith in
+      ⊎-elim
+      (λ t.
+      ap (λ (c : Bool). sourceFrom rs k (cond c (sourceIn r (k - r .at)) s)) (t .0)
+      ∙ source-beside rs (sourceIn r (k - r .at)) b
+      ∙ ap (sourceIn r) d)
+      (λ o. let no : ⊥ = omega (arith, o .1 (omega arith)) in absurd no) (in-or-beside r)
+  source-in (x ∷ rs₀) r rs i s e l b = source-in rs₀ r rs i _ e l b
 
-  module _ (two : h .method ≡ 2) where
-    source-entry : k < h .vertices * h .vertices → sourceOf h k ≡ field k entry
-    unfolding sourceOf
-    source-entry l = rw (two, lt-ltb k (h .vertices * h .vertices) l)
+-- ---- a strip's numbers
 
-    source-none-two : h .vertices * h .vertices ≤ k → sourceOf h k ≡ nothing
-    unfolding sourceOf
-    source-none-two l = rw (two, le-ltb k (h .vertices * h .vertices) l)
+-- All of them are laid; the loop reads the request's words, of which the header is the first.
+pub strip-done : (r : Strip) (request : List ℕ) (cells₀ cells : List ℤ) (i : ℕ) → i ≤ r .count → r .count ≤ i
+    → cells ≡ sets cells₀ (r .at) (ones i (λ j. partOf (r .part) (getD request (r .word + 1 + j) 0)))
+    → cells ≡ sets cells₀ (r .at) (numbersOf r (drop 1 request))
+unfolding laid
+strip-done r request cells₀ cells i g l e =
+    let n : i ≡ r .count = omega arith in
+    e ∙ (λ v. sets cells₀ (r .at) (ones (n v) (λ j. partOf (r .part) (word j v))))
+  where
+    word : (j : ℕ) → getD request (r .word + 1 + j) 0 ≡ getD (drop 1 request) (r .word + j) 0
+    word j = let o : r .word + 1 + j ≡ 1 + (r .word + j) = omega arith in rw (o, getD-drop 1 request (r .word + j) 0)
 
--- ---- what it gives, by the ways out of `start_cell`
+-- ---- strips laid over cells that have their sources
 
--- The word that it reads is there.
-module _ (h : Header) (request : List ℕ) (counted : length (drop 1 request) ≡ wordCountOf h) (k : ℕ) where
-  pub from-there : h .method ≡ 1 → k < h .edges → k + 1 < length request
-  from-there one l = omega (arith, words-one h one, length-drop 1 request)
+-- Strips laid one after the other.
+abbrev pub layAll : List ℕ → List Strip → List ℤ → List ℤ
+layAll ws [] cells = cells
+layAll ws (r ∷ rs) cells = layAll ws rs (sets cells (r .at) (numbersOf r ws))
 
-  pub to-there : h .method ≡ 1 → h .edges ≤ k → k < 2 * h .edges → k - h .edges + 1 < length request
-  to-there one g l = omega (arith, words-one h one, length-drop 1 request)
+module _ (ws : List ℕ) (words count : ℕ) (lent : List ℤ) (enough : count ≤ length lent) where
+  -- The first `count` cells by their sources.
+  abbrev cellsBy : (ℕ → Source) → List ℤ
+  cellsBy s = copied count (λ k. laid ws (s k)) lent
 
-  pub weight-there : h .method ≡ 1 → 2 * h .edges ≤ k → k < 3 * h .edges → k - 2 * h .edges + 1 < length request
-  weight-there one g l = omega (arith, words-one h one, length-drop 1 request)
+  module _ (r : Strip) (fits : Fits words count r) (s : ℕ → Source) where
+    -- The sources once r is laid.
+    abbrev under : ℕ → Source
+    under k = cond (covers r k) (sourceIn r (k - r .at)) (s k)
 
-  pub entry-there : h .method ≡ 2 → k < h .vertices * h .vertices → k + 1 < length request
-  entry-there two l = omega (arith, words-two h two, length-drop 1 request)
+    long : (t : ℕ → Source) → length (cellsBy t) ≡ length lent
+    long t = copied-long count (λ k. laid ws (t k)) lent enough
 
-module _ (request : List ℕ) (source : Source) where
-  laid-field : (i : ℕ) (part : Part) → source ≡ field i part
-      → partOf part (getD request (i + 1) 0) ≡ laid (drop 1 request) source
-  unfolding laid
-  laid-field i part s = let o : i + 1 ≡ 1 + i = omega arith in rw (s, o, getD-drop 1 request i 0)
+    at-cell : (k : ℕ) → getD (sets (cellsBy s) (r .at) (numbersOf r ws)) k (pos 0) ≡ getD (cellsBy under) k (pos 0)
+    at-cell k =
+        ⊎-elim
+        (λ t.
+        let e : k ≡ r .at + (k - r .at) = omega (arith, t .1) in
+        let u : under k ≡ sourceIn r (k - r .at) = rw (t .0) in
+        ap (λ (j : ℕ). getD (sets (cellsBy s) (r .at) (numbersOf r ws)) j (pos 0)) e
+        ∙ set-at (λ i. laid ws (sourceIn r i)) (cellsBy s) (r .at) (r .count) (k - r .at) (omega (arith, t .1, t .2)) (omega (arith, long s))
+        ∙ sym (copied-at count (λ j. laid ws (under j)) lent k (omega (arith, t .2)) ∙ ap (laid ws) u))
+        (λ o.
+        let u : under k ≡ s k = rw (o .0) in
+        set-beside (λ i. laid ws (sourceIn r i)) (cellsBy s) (r .at) (r .count) k (o .1)
+        ∙ copied-same count (λ j. laid ws (s j)) (λ j. laid ws (under j)) lent k (sym (ap (laid ws) u)))
+        (in-or-beside k r)
 
-  laid-nothing : source ≡ nothing → pos 0 ≡ laid (drop 1 request) source
-  unfolding laid
-  laid-nothing s = rw s
+    strip-laid : sets (cellsBy s) (r .at) (numbersOf r ws) ≡ cellsBy under
+    strip-laid =
+        ext-getD (pos 0) _ _ (length-sets (cellsBy s) (r .at) (numbersOf r ws) ∙ long s ∙ sym (long under)) (λ k l. at-cell k)
 
--- r and v are a field and a weight, as they come from their functions.
-module _ (h : Header) (request : List ℕ) (k : ℕ) where
-  module _ (one : h .method ≡ 1) where
-    pub from-cell : (r : ℕ) → (r ≡ fromField (getD request (k + 1) 0)) × (r < 2 ^ 8) → k < h .edges
-        → toZ w64 r ≡ laid (drop 1 request) (sourceOf h k)
-    from-cell r (e, small) l =
-        toZ-pos w64 {n = r} (omega arith) ∙ ap pos e
-        ∙ laid-field request _ k from (source-from h k one l)
+  -- Strips one after the other.
+  strips-laid : (rs : List Strip) (s : ℕ → Source) → All (Fits words count) rs
+      → layAll ws rs (cellsBy s) ≡ cellsBy (λ k. sourceFrom rs k (s k))
+  strips-laid [] s fits = refl
+  strips-laid (r ∷ rs) s fits =
+      ap (layAll ws rs) (strip-laid r (fits .0) s) ∙ strips-laid rs (under r (fits .0) s) (fits .1)
 
-    pub to-cell : (r : ℕ) → (r ≡ toField (getD request (k - h .edges + 1) 0)) × (r < 2 ^ 8) → h .edges ≤ k → k < 2 * h .edges
-        → toZ w64 r ≡ laid (drop 1 request) (sourceOf h k)
-    to-cell r (e, small) g l =
-        toZ-pos w64 {n = r} (omega arith) ∙ ap pos e
-        ∙ laid-field request _ (k - h .edges) to (source-to h k one (k - h .edges) (omega arith) (omega arith))
+-- ---- a header's strips
 
-    pub weight-cell : (v : ℤ) → mag v < 2 ^ 63 → v ≡ weightOf (getD request (k - 2 * h .edges + 1) 0) → 2 * h .edges ≤ k
-        → k < 3 * h .edges → back v ≡ laid (drop 1 request) (sourceOf h k)
-    weight-cell v small e g l =
-        kept v small ∙ e
-        ∙ laid-field request _ (k - 2 * h .edges) weight
-        (source-weight h k one (k - 2 * h .edges) (omega arith) (omega arith))
+module _ (h : Header) where
+  strips-one : h .method ≡ 1
+      → stripsOf h ≡ strip 0 (h .edges) 0 From ∷ strip (h .edges) (h .edges) 0 To ∷ strip (2 * h .edges) (h .edges) 0 Weight ∷ []
+  unfolding stripsOf
+  strips-one e = rw e
 
-    pub working-cell : 3 * h .edges ≤ k → pos 0 ≡ laid (drop 1 request) (sourceOf h k)
-    working-cell g = laid-nothing request _ (source-none h k one g)
+  strips-two : h .method ≡ 2 → stripsOf h ≡ strip 0 (h .vertices * h .vertices) 0 Entry ∷ []
+  unfolding stripsOf
+  strips-two e = rw e
 
-  module _ (two : h .method ≡ 2) where
-    module _ (v : ℤ) (small : mag v < 2 ^ 63) (is : v ≡ weightOf (getD request (k + 1) 0)) (l : k < h .vertices * h .vertices) where
-      entry-cell : orFar v ≡ laid (drop 1 request) (sourceOf h k)
-      entry-cell = ap orFar is ∙ laid-field request _ k entry (source-entry h k two l)
+-- ---- the array of a header's strips
 
-      by-test : (t : Bool) → eqZ v (negsuc 0) ≡ t → cond t far v ≡ laid (drop 1 request) (sourceOf h k)
-      by-test t e = rw (← e) entry-cell
+unpadded : (ws : List ℕ) (n : ℕ) (rs : List Strip) (cells : List ℤ) → layAll ws (rs ++ replicate n empty) cells ≡ layAll ws rs cells
+unfolding flat
+unpadded ws zero [] cells = refl
+unpadded ws (suc n) [] cells = unpadded ws n [] cells
+unpadded ws n (r ∷ rs) cells = unpadded ws n rs (sets cells (r .at) (numbersOf r ws))
 
-      pub no-edge : ofZ w64 v ≡ ofZ w64 (negsuc 0) → far ≡ laid (drop 1 request) (sourceOf h k)
-      no-edge e = by-test true (eq-test v (negsuc 0) (record { sfits = small }) (sfits-lit tt) e)
+-- What holds of the strips and of the empty one holds at each place.
+module _ (P : Strip → Type 0) (none : P empty) where
+  padded-at : (n : ℕ) (rs : List Strip) → All P rs → (k : ℕ) → P (getD (rs ++ replicate n empty) k empty)
+  padded-at zero [] a k = none
+  padded-at (suc n) [] a zero = none
+  padded-at (suc n) [] a (suc k) = padded-at n [] tt k
+  padded-at n (r ∷ rs) a zero = a .0
+  padded-at n (r ∷ rs) a (suc k) = padded-at n rs (a .1) k
 
-      pub some-edge : (ofZ w64 v ≡ ofZ w64 (negsuc 0) → ⊥) → back v ≡ laid (drop 1 request) (sourceOf h k)
-      some-edge e = kept v small ∙ by-test false (ne-test v (negsuc 0) e)
+strips-fit : (h : Header) → Accepted h → All (Fits (wordCountOf h) (cellsOf h)) (stripsOf h)
+unfolding stripsOf wordCountOf cellsOf
+strips-fit =
+    by-method (λ h. All (Fits (wordCountOf h) (cellsOf h)) (stripsOf h))
+    (λ n m source a. search arith)
+    (λ n source a. search arith)
 
-    pub working-cell-two : h .vertices * h .vertices ≤ k → pos 0 ≡ laid (drop 1 request) (sourceOf h k)
-    working-cell-two g = laid-nothing request _ (source-none-two h k two g)
+-- ---- the whole
+
+-- What intake begins with: the needed cells cleared, and the array of the header's strips.
+pub record Begun (h : Header) (ws : List ℕ) (lent cleared : List ℤ) (rs : List Strip) : Type 0 where
+  pub accepted : Accepted h
+  pub counted : length ws ≡ wordCountOf h
+  pub enough : cellsOf h ≤ length lent
+  pub clear : cleared ≡ copied (cellsOf h) (λ k. pos 0) lent
+  pub strips : rs ≡ padded (stripsOf h)
+  pub many : length rs ≡ mostStrips
+
+-- Before strip k: laying what is left gives what laying all of them to the cleared cells gives.
+pub record Laying (ws : List ℕ) (rs : List Strip) (cleared cells : List ℤ) (k : ℕ) : Type 0 where
+  pub long : length cells ≡ length cleared
+  pub rest : layAll ws (drop k rs) cells ≡ layAll ws rs cleared
+
+pub start : (ws : List ℕ) (rs : List Strip) (cleared : List ℤ) → Laying ws rs cleared cleared 0
+start ws rs cleared = record { long = refl; rest = refl }
+
+module _ {h : Header} {ws : List ℕ} {lent cleared cells : List ℤ} {rs : List Strip} {k : ℕ}
+    (b : Begun h ws lent cleared rs) (laying : Laying ws rs cleared cells k) where
+  pub kept : length cells ≡ length lent
+  kept = laying .long ∙ ap length (b .clear) ∙ copied-long (cellsOf h) (λ k. pos 0) lent (b .enough)
+
+  abbrev now : Strip
+  now = getD rs k empty
+
+  pub fits-now : Fits (length ws) (length cells) now
+  fits-now =
+      let none : Fits (wordCountOf h) (cellsOf h) empty = record { read = zero-le; written = zero-le } in
+      let f = padded-at (Fits (wordCountOf h) (cellsOf h)) none (mostStrips - length (stripsOf h)) (stripsOf h) (strips-fit h (b .accepted)) k in
+      rw (b .strips) (record { read = omega (arith, f .read, b .counted); written = omega (arith, f .written, b .enough, kept) })
+
+  pub again : k < mostStrips → (next : List ℤ) → next ≡ sets cells (now .at) (numbersOf now ws) → Laying ws rs cleared next (k + 1)
+  again l next e =
+      let left = drop-cons rs k empty (omega (arith, b .many)) in
+      record {
+        long = rw e (length-sets cells (now .at) (numbersOf now ws) ∙ laying .long);
+        rest = rw (e, add-one k) (sym (ap (λ (ts : List Strip). layAll ws ts cells) left) ∙ laying .rest);
+      }
+
+  pub all-laid : mostStrips ≤ k → cells ≡ startingCells h ws lent
+  unfolding startingCells sourceOf laid
+  all-laid l =
+      let none-left = drop-of-length-le rs {i = k} (omega (arith, b .many)) in
+      sym (ap (λ (ts : List Strip). layAll ws ts cells) none-left)
+      ∙ laying .rest
+      ∙ rw (b .strips, b .clear)
+      (unpadded ws (mostStrips - length (stripsOf h)) (stripsOf h) _
+      ∙ strips-laid ws (wordCountOf h) (cellsOf h) lent (b .enough) (stripsOf h) (λ k. nothing) (strips-fit h (b .accepted)))
 
 -- ---- what each cell then holds
 
@@ -152,30 +228,38 @@ module _ (h : Header) (ws : List ℕ) (lent : List ℤ) where
 
   -- ---- by name
 
-  named : (k i : ℕ) (part : Part) → k < cellsOf h → sourceOf h k ≡ field i part
-      → cellAt (startingCells h ws lent) k ≡ partOf part (getD ws i 0)
-  unfolding laid
-  named k i part l s = start-needed k l ∙ ap (laid ws) s
+  -- The i-th cell of strip r, which no later one covers.
+  named : (rs₀ : List Strip) (r : Strip) (rs : List Strip) → stripsOf h ≡ rs₀ ++ (r ∷ rs) → (k i : ℕ) → k ≡ r .at + i → i < r .count
+      → All (Beside k) rs → k < cellsOf h → cellAt (startingCells h ws lent) k ≡ partOf (r .part) (getD ws (r .word + i) 0)
+  unfolding sourceOf laid
+  named rs₀ r rs e k i p l b n =
+      start-needed k n
+      ∙ ap (λ (ts : List Strip). laid ws (sourceFrom ts k nothing)) e
+      ∙ ap (laid ws) (source-in k rs₀ r rs i nothing p l b)
 
   module _ (one : h .method ≡ 1) (i : ℕ) (l : i < h .edges) where
-    pub from-laid : cellAt (startingCells h ws lent) (Method1.places (h .vertices) (h .edges) .from i)
+    pub from-laid : cellAt (startingCells h ws lent) (cell (Method1.starts (h .vertices) (h .edges)) (Method1.from i))
         ≡ pos (fromField (getD ws i 0))
-    from-laid = named i i from (omega (arith, cells-one h one)) (source-from h i one l)
+    from-laid =
+        rw zero-add
+        (rw zero-add at (named [] _ _ (strips-one h one) i i (omega arith) l (search arith) (omega (arith, cells-one h one))))
 
-    pub to-laid : cellAt (startingCells h ws lent) (Method1.places (h .vertices) (h .edges) .to i)
+    pub to-laid : cellAt (startingCells h ws lent) (cell (Method1.starts (h .vertices) (h .edges)) (Method1.to i))
         ≡ pos (toField (getD ws i 0))
-    to-laid = named (h .edges + i) i to (omega (arith, cells-one h one)) (source-to h (h .edges + i) one i refl l)
+    to-laid =
+        rw zero-add at
+        (named (_ ∷ []) _ _ (strips-one h one) (h .edges + i) i refl l (search arith) (omega (arith, cells-one h one)))
 
-    pub weight-laid : cellAt (startingCells h ws lent) (Method1.places (h .vertices) (h .edges) .weight i)
+    pub weight-laid : cellAt (startingCells h ws lent) (cell (Method1.starts (h .vertices) (h .edges)) (Method1.weight i))
         ≡ weightOf (getD ws i 0)
     weight-laid =
-        named (2 * h .edges + i) i weight (omega (arith, cells-one h one))
-        (source-weight h (2 * h .edges + i) one i refl l)
+        rw zero-add at
+        (named (_ ∷ _ ∷ []) _ _ (strips-one h one) (2 * h .edges + i) i refl l tt (omega (arith, cells-one h one)))
 
   pub entry-laid : h .method ≡ 2 → (u j : ℕ) → u < h .vertices → j < h .vertices
-      → cellAt (startingCells h ws lent) (Method2.places (h .vertices) .U (u * h .vertices + j))
+      → cellAt (startingCells h ws lent) (cell (Method2.starts (h .vertices)) (Method2.U (u * h .vertices + j)))
       ≡ orFar (weightOf (getD ws (u * h .vertices + j) 0))
   entry-laid two u j p q =
       let k = u * h .vertices + j in
       let l : k < h .vertices * h .vertices = digits-lt {q = u} {m = h .vertices} {r = j} {c = h .vertices} p q in
-      named k k entry (omega (arith, cells-two h two)) (source-entry h k two l)
+      rw zero-add (rw zero-add at (named [] _ _ (strips-two h two) k k (omega arith) l tt (omega (arith, cells-two h two))))

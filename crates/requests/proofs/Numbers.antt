@@ -1,6 +1,5 @@
 -- Whatever refusal a request meets, its number is not one that a run is told by. Rests on answers' Apart and the planner's Headers.
 use mathlib.Core.Path.{refl}
-use mathlib.Core.Bool.{_&&_}
 use mathlib.Core.List.{List, [], _∷_}
 use mathlib.Core.Option.{none}
 use Prim.Native.Nat.{ℕ, suc}
@@ -9,18 +8,19 @@ use lib.ListN.{length}
 use Rattle.answers.specs.Refusal.{Method, Words, Cells, Log, Results, Edge, Weight}
 use Rattle.answers.proofs.Apart.{MetApart, none-apart, some-apart, need-apart, orElse-apart}
 use Rattle.plans.specs.declared.Header.{Header}
-use Rattle.plans.specs.Plan.{headerOf, cellsOf}
+use Rattle.plans.specs.Plan.{headerOf, wordCountOf, cellsOf, everyKind, resultsOf}
 use Rattle.planner.specs.Refusal.{headerRefusal}
 use Rattle.planner.proofs.Headers.{header-apart}
-use Rattle.requests.specs.Refusal.{wordCountOf, logLengthOf, sizesRefusal, shapeGood, weightGood, wordRefusal, wordsRefusal, requestRefusal}
+use Rattle.requests.specs.declared.Lengths.{Lengths}
+use Rattle.requests.specs.Refusal.{logLengthOf, roomFor, sizesRefusal, shapeGood, weightGood, wordRefusal, wordsRefusal, requestRefusal}
 
-sizes-apart : (h : Header) (words cells log distances parents : ℕ) → MetApart (sizesRefusal h words cells log distances parents)
+sizes-apart : (h : Header) (words : ℕ) (lent : Lengths) → MetApart (sizesRefusal h words lent)
 unfolding sizesRefusal
-sizes-apart h words cells log distances parents =
+sizes-apart h words lent =
     need-apart (eqb words (wordCountOf h)) Words _ (refl, refl)
-    (need-apart (leb (cellsOf h) cells) Cells _ (refl, refl)
-    (need-apart (leb (logLengthOf h) log) Log _ (refl, refl)
-    (need-apart (leb (h .vertices) distances && leb (h .vertices) parents) Results none (refl, refl) none-apart)))
+    (need-apart (leb (cellsOf h) (lent .cells)) Cells _ (refl, refl)
+    (need-apart (leb (logLengthOf h) (lent .log)) Log _ (refl, refl)
+    (need-apart (everyKind (λ k. leb (resultsOf h k .count) (roomFor lent k))) Results none (refl, refl) none-apart)))
 
 word-apart : (h : Header) (place w : ℕ) → MetApart (wordRefusal h place w)
 unfolding wordRefusal
@@ -34,10 +34,10 @@ words-apart h place [] = none-apart
 words-apart h place (w ∷ ws) =
     orElse-apart (wordRefusal h place w) _ (word-apart h place w) (words-apart h (suc place) ws)
 
-pub request-apart : (request : List ℕ) (cells log distances parents : ℕ) → MetApart (requestRefusal request cells log distances parents)
+pub request-apart : (request : List ℕ) (lent : Lengths) → MetApart (requestRefusal request lent)
 unfolding requestRefusal
-request-apart [] cells log distances parents = some-apart Method (refl, refl)
-request-apart (w ∷ ws) cells log distances parents =
+request-apart [] lent = some-apart Method (refl, refl)
+request-apart (w ∷ ws) lent =
     orElse-apart (headerRefusal (headerOf w)) _ (header-apart (headerOf w))
-    (orElse-apart (sizesRefusal (headerOf w) (length ws) cells log distances parents) _
-    (sizes-apart (headerOf w) (length ws) cells log distances parents) (words-apart (headerOf w) 0 ws))
+    (orElse-apart (sizesRefusal (headerOf w) (length ws) lent) _
+    (sizes-apart (headerOf w) (length ws) lent) (words-apart (headerOf w) 0 ws))

@@ -1,16 +1,23 @@
 -- What a header asks for, method by method, and which of the refusals 5 to 8 a request meets, by the ways out of `check_sizes`.
--- Rests on the laws of plans.
-use mathlib.Core.Path.{_≡_}
-use mathlib.Core.Bool.{_&&_}
+-- Rests on the laws of plans and answers' Unmet.
+use mathlib.Core.Path.{_≡_, refl, sym, _∙_}
+use mathlib.Core.Logic.{_↔_}
+use mathlib.Core.Bool.{Bool, true}
 use mathlib.Core.Option.{none, some}
 use Prim.Native.Nat.{ℕ, _+_, _*_, _<_, _≤_}
 use native.Mathlib.Omega.{arith}
-use lib.Dec.{leb}
+use lib.Dec.{leb, eqb, leb→le, le→leb, eqb→eq}
 use borrow.Author.Tests.{eq-eqb, ne-eqb, le-leb, lt-leb}
-use Rattle.answers.specs.Refusal.{Words, Cells, Log, Results, need}
+use Rattle.answers.specs.Refusal.{Words, Cells, Log, Results}
+use Rattle.answers.proofs.Unmet.{need-none}
 use Rattle.plans.specs.declared.Header.{Header}
-use Rattle.plans.specs.Plan.{cellsOf, verdictCell, lengthOf}
-use Rattle.requests.specs.Refusal.{wordCountOf, logLengthOf, sizesRefusal}
+use Rattle.plans.specs.Plan.{wordCountOf, cellsOf, Kind, distances, parents, everyKind, resultsOf, verdictCell, lengthOf}
+use Rattle.plans.proofs.EachKind.{each-kind, every-kind, not-every}
+use Rattle.planner.specs.declared.Figures.{Figures}
+use Rattle.planner.specs.Figures.{Figured}
+use Rattle.requests.specs.declared.Lengths.{Lengths}
+use Rattle.requests.specs.Refusal.{logLengthOf, roomFor, sizesRefusal}
+use Rattle.requests.specs.Sizes.{askedOf}
 
 -- ---- what the header asks for
 
@@ -31,7 +38,7 @@ module _ (h : Header) where
   unfolding cellsOf
   cells-two e = rw e
 
-  -- size is what `plan_length` gives.
+  -- size is the plan's length, as the code has it.
   pub log-opened : (size cell : ℕ) → size ≡ lengthOf h → some cell ≡ verdictCell h → size + 1 ≡ logLengthOf h
   unfolding logLengthOf
   log-opened size cell s e = rw (s, ← e)
@@ -40,36 +47,109 @@ module _ (h : Header) where
   unfolding logLengthOf
   log-quiet size s e = rw (s, ← e) (omega arith)
 
--- ---- 5 to 8
+-- As many places of each kind.
+room-asked : (h : Header) (k : Kind) → roomFor (askedOf h) k ≡ resultsOf h k .count
+room-asked h = each-kind _ refl refl
 
-module _ (h : Header) (words cells log distances parents : ℕ) where
-  pub words-other : (words ≡ wordCountOf h → ⊥) → some Words ≡ sizesRefusal h words cells log distances parents
+-- The lengths asked for, as `lengths_of` has them.
+pub lengths-are : (h : Header) (f : Figures) → Figured h f → (log : ℕ) → log ≡ logLengthOf h
+    → record { cells = f .cells; log = log; distances = f .distances .count; parents = f .parents .count } ≡ askedOf h
+lengths-are h f is log l =
+    λ i.
+    record {
+      cells = is .cells-are i;
+      log = l i;
+      distances = is .results-are distances i .count;
+      parents = is .results-are parents i .count;
+    }
+
+-- ---- none of 5 to 8
+
+pub record Sized (h : Header) (words : ℕ) (lent : Lengths) : Type 0 where
+  pub counted : words ≡ wordCountOf h
+  pub cells : cellsOf h ≤ lent .cells
+  pub log : logLengthOf h ≤ lent .log
+  pub results : (k : Kind) → resultsOf h k .count ≤ roomFor lent k
+
+pub sizes-none : (h : Header) (words : ℕ) (lent : Lengths) → (sizesRefusal h words lent ≡ none) ↔ Sized h words lent
+unfolding sizesRefusal
+sizes-none h words lent =
+    let enough : Kind → Bool = λ k. leb (resultsOf h k .count) (roomFor lent k) in
+    let w = need-none (eqb words (wordCountOf h)) Words _ in
+    let c = need-none (leb (cellsOf h) (lent .cells)) Cells _ in
+    let l = need-none (leb (logLengthOf h) (lent .log)) Log _ in
+    let r = need-none (everyKind enough) Results none in (
+      λ e.
+          let (counted, after-words) = w .0 e in
+          let (cells, after-cells) = c .0 after-words in
+          let (log, after-log) = l .0 after-cells in
+          record {
+            counted = eqb→eq words (wordCountOf h) counted;
+            cells = leb→le (cellsOf h) (lent .cells) cells;
+            log = leb→le (logLengthOf h) (lent .log) log;
+            results = λ k. leb→le (resultsOf h k .count) (roomFor lent k) (every-kind enough .0 (r .0 after-log .0) k);
+          },
+      λ s.
+          w .1 (
+            rw (eq-eqb words (wordCountOf h) (s .counted)) tt,
+            c .1 (
+              le→leb (cellsOf h) (lent .cells) (s .cells),
+              l .1 (
+                le→leb (logLengthOf h) (lent .log) (s .log),
+                r .1 (every-kind enough .1 (λ k. le→leb (resultsOf h k .count) (roomFor lent k) (s .results k)), refl),
+              ),
+            ),
+          ),
+    )
+
+-- ---- 5 to 8, by the ways out of `check_sizes`
+
+-- count and asked are what the code has of the header.
+module _ (h : Header) (words : ℕ) (lent : Lengths) (count : ℕ) (count-is : count ≡ wordCountOf h) (asked : Lengths) (asked-is : asked ≡ askedOf h) where
+  pub words-other : (words ≡ count → ⊥) → some Words ≡ sizesRefusal h words lent
   unfolding sizesRefusal
-  words-other n = rw (ne-eqb words (wordCountOf h) n)
+  words-other n = rw (ne-eqb words (wordCountOf h) (rw count-is at n))
 
-  module _ (w : words ≡ wordCountOf h) where
-    pub cells-short : cells < cellsOf h → some Cells ≡ sizesRefusal h words cells log distances parents
+  module _ (w : words ≡ count) where
+    counted : eqb words (wordCountOf h) ≡ true
+    counted = eq-eqb words (wordCountOf h) (w ∙ count-is)
+
+    pub cells-short : lent .cells < asked .cells → some Cells ≡ sizesRefusal h words lent
     unfolding sizesRefusal
-    cells-short a = simp (eq-eqb words (wordCountOf h) w, lt-leb (cellsOf h) cells a)
+    cells-short a = simp (counted, lt-leb (cellsOf h) (lent .cells) (rw asked-is at a))
 
-    module _ (c : cellsOf h ≤ cells) where
-      pub log-short : log < logLengthOf h → some Log ≡ sizesRefusal h words cells log distances parents
+    module _ (c : asked .cells ≤ lent .cells) where
+      enough-cells : leb (cellsOf h) (lent .cells) ≡ true
+      enough-cells = le-leb (cellsOf h) (lent .cells) (rw asked-is at c)
+
+      pub log-short : lent .log < asked .log → some Log ≡ sizesRefusal h words lent
       unfolding sizesRefusal
-      log-short a = simp (eq-eqb words (wordCountOf h) w, le-leb (cellsOf h) cells c, lt-leb (logLengthOf h) log a)
+      log-short a = simp (counted, enough-cells, lt-leb (logLengthOf h) (lent .log) (rw asked-is at a))
 
-      module _ (l : logLengthOf h ≤ log) where
-        by-results : need (leb (h .vertices) distances && leb (h .vertices) parents) Results none
-            ≡ sizesRefusal h words cells log distances parents
+      module _ (l : asked .log ≤ lent .log) where
+        results-short : (k : Kind) → roomFor lent k < roomFor asked k → some Results ≡ sizesRefusal h words lent
         unfolding sizesRefusal
-        by-results =
-            simp (eq-eqb words (wordCountOf h) w, le-leb (cellsOf h) cells c, le-leb (logLengthOf h) log l)
+        results-short k a =
+            simp (
+              counted,
+              enough-cells,
+              le-leb (logLengthOf h) (lent .log) (rw asked-is at l),
+              not-every (λ k. leb (resultsOf h k .count) (roomFor lent k)) k (lt-leb _ _ (rw (asked-is, room-asked h k) at a)),
+            )
 
-        pub distances-short : distances < h .vertices → some Results ≡ sizesRefusal h words cells log distances parents
-        distances-short a = rw (← by-results, lt-leb (h .vertices) distances a)
+        pub distances-short : lent .distances < asked .distances → some Results ≡ sizesRefusal h words lent
+        distances-short = results-short distances
 
-        module _ (d : h .vertices ≤ distances) where
-          pub parents-short : parents < h .vertices → some Results ≡ sizesRefusal h words cells log distances parents
-          parents-short a = rw (← by-results, le-leb (h .vertices) distances d, lt-leb (h .vertices) parents a)
+        pub parents-short : lent .parents < asked .parents → some Results ≡ sizesRefusal h words lent
+        parents-short = results-short parents
 
-          pub sizes-met : h .vertices ≤ parents → none ≡ sizesRefusal h words cells log distances parents
-          sizes-met a = rw (← by-results, le-leb (h .vertices) distances d, le-leb (h .vertices) parents a)
+        pub sizes-met : asked .distances ≤ lent .distances → asked .parents ≤ lent .parents → none ≡ sizesRefusal h words lent
+        sizes-met d p =
+            sym
+            (sizes-none h words lent .1
+            (record {
+              counted = w ∙ count-is;
+              cells = rw asked-is at c;
+              log = rw asked-is at l;
+              results = each-kind _ (rw asked-is at d) (rw asked-is at p);
+            }))

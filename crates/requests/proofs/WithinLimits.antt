@@ -1,12 +1,12 @@
 -- A request meets no refusal exactly where it is within the limits; what the code's definitions make of these; and how large its fields are.
 -- Rests on Sizes, Order, answers' Unmet and the planner's Headers.
-use mathlib.Core.Path.{_≡_, refl, sym, ap, _∙_}
+use mathlib.Core.Path.{_≡_, refl, sym, ap, _∙_, fun-ext}
 use mathlib.Core.Logic.{_↔_, _⊎_, inl, inr, ⊎-elim}
 use mathlib.Core.Bool.{true, _&&_}
 use mathlib.Core.List.{List, [], _∷_}
 use mathlib.Core.Option.{none, Option·some-ne-none}
 use Prim.Native.Nat.{ℕ, zero, suc, _+_, _-_, _*_, _<_, _≤_}
-use native.Mathlib.Nat.{add-zero, eq-zero-or-pos, le-of-suc-le-suc, not-suc-le-zero}
+use native.Mathlib.Nat.{add-zero, le-of-suc-le-suc, not-suc-le-zero}
 use native.Mathlib.Omega.{arith}
 use lib.Dec.{T, ltb, leb, eqb, ltb→lt, leb→le, eqb→eq, lt→ltb, le→leb}
 use lib.IntN.{ℤ, pos, negsuc, natAbs, pos-ne-negsuc}
@@ -14,29 +14,21 @@ use lib.ListN.{length, getD}
 use lib.Signed.{leZ, _≤ℤ_, leZ-yes}
 use mir.Facts.{and-yes, yes-and}
 use borrow.Author.Tests.{eq-eqb}
-use Rattle.answers.specs.Refusal.{Method, Words, Cells, Log, Results, Edge, Weight, need, orElse}
+use Rattle.answers.specs.Refusal.{Method, Edge, Weight, need, orElse}
 use Rattle.answers.proofs.Unmet.{need-none, orElse-none}
 use Rattle.plans.specs.declared.Header.{Header}
 use Rattle.plans.specs.Limits.{byMethod, knownMethod}
-use Rattle.plans.specs.Plan.{Accepted, cellsOf, lengthOf, verdictCell}
+use Rattle.plans.specs.Plan.{Accepted, wordCountOf, cellsOf, Kind, byKind, resultsOf, lengthOf, verdictCell}
+use Rattle.plans.proofs.EachKind.{each-kind}
 use Rattle.plans.proofs.Headers.{method-is, is-known, by-method}
 use Rattle.planner.specs.Refusal.{headerRefusal}
 use Rattle.planner.proofs.Headers.{accepted, none-met}
 use Rattle.requests.specs.Word.{fromField, toField, spareOfEdge, spareOfEntry, weightOf}
-use Rattle.requests.specs.Refusal.{wordCountOf, logLengthOf, sizesRefusal, shapeGood, weightGood, wordRefusal, wordsRefusal, requestRefusal}
+use Rattle.requests.specs.declared.Lengths.{Lengths}
+use Rattle.requests.specs.Refusal.{logLengthOf, roomFor, sizesRefusal, shapeGood, weightGood, wordRefusal, wordsRefusal, requestRefusal}
 use Rattle.requests.specs.WithinLimits.{headerIn, wordsIn, EdgeWithin, EntryWithin, WordWithin, WithinLimits}
-use Rattle.requests.proofs.Sizes.{words-one, words-two, sizes-met}
+use Rattle.requests.proofs.Sizes.{words-one, words-two, sizes-none}
 use Rattle.requests.proofs.Order.{no-word, in-order}
-
--- ---- the methods, in numbers
-
-in-numbers : (method : ℕ) → T (knownMethod method) → (1 ≤ method) × (method ≤ 2)
-in-numbers method k = ⊎-elim (λ (e : method ≡ 1). omega arith) (λ (e : method ≡ 2). omega arith) (method-is method k)
-
-from-numbers : (method : ℕ) → 1 ≤ method → method ≤ 2 → knownMethod method ≡ true
-from-numbers method l u =
-    is-known method
-    (⊎-elim (λ (e : method - 1 ≡ 0). inl (omega arith)) (λ (g : 0 < method - 1). inr (omega arith)) (eq-zero-or-pos (method - 1)))
 
 -- ---- one word
 
@@ -147,73 +139,65 @@ log-figure =
     one-more : (n x : ℕ) → 3 * n + 5 + x ≡ 3 * n + 4 + x + 1
     one-more n x = omega arith
 
--- 5 to 8.
-sizes-none : (h : Header) (words cells log distances parents : ℕ) → sizesRefusal h words cells log distances parents ≡ none
-    → (words ≡ wordCountOf h) × (cellsOf h ≤ cells) × (logLengthOf h ≤ log) × (h .vertices ≤ distances) × (h .vertices ≤ parents)
-unfolding sizesRefusal
-sizes-none h words cells log distances parents e =
-    let (a, p) = need-none (eqb words (wordCountOf h)) Words _ .0 e in
-    let (b, q) = need-none (leb (cellsOf h) cells) Cells _ .0 p in
-    let (c, r) = need-none (leb (logLengthOf h) log) Log _ .0 q in
-    let (d, _) = need-none (leb (h .vertices) distances && leb (h .vertices) parents) Results none .0 r in
-    let (d₁, d₂) = and-yes (leb (h .vertices) distances) _ d in (
-      eqb→eq words (wordCountOf h) a,
-      leb→le (cellsOf h) cells b,
-      leb→le (logLengthOf h) log c,
-      leb→le (h .vertices) distances d₁,
-      leb→le (h .vertices) parents d₂,
-    )
+-- So many results of each kind.
+results-figure : (h : Header) → Accepted h
+    → byMethod (h .method) (λ k. 0) (byKind (h .vertices) (h .vertices) ∷ byKind (h .vertices) (h .vertices) ∷ [])
+    ≡ (λ k. resultsOf h k .count)
+unfolding resultsOf
+results-figure =
+    by-method
+    (λ h. byMethod (h .method) (λ k. 0) (byKind (h .vertices) (h .vertices) ∷ byKind (h .vertices) (h .vertices) ∷ [])
+    ≡ (λ k. resultsOf h k .count))
+    (λ n m source a. fun-ext (each-kind _ refl refl))
+    (λ n source a. fun-ext (each-kind _ refl refl))
 
 -- The request.
-module _ (request : List ℕ) (cells log distances parents : ℕ) where
+module _ (request : List ℕ) (lent : Lengths) where
   -- Where it has a header word.
   pub all-none : (length request ≡ 0 → ⊥)
-      → (requestRefusal request cells log distances parents ≡ none)
+      → (requestRefusal request lent ≡ none)
       ↔ ((headerRefusal (headerIn request) ≡ none)
-      × (sizesRefusal (headerIn request) (length (wordsIn request)) cells log distances parents ≡ none)
+      × (sizesRefusal (headerIn request) (length (wordsIn request)) lent ≡ none)
       × (wordsRefusal (headerIn request) 0 (wordsIn request) ≡ none))
   all-none n =
-      let sizes = sizesRefusal (headerIn request) (length (wordsIn request)) cells log distances parents in
+      let sizes = sizesRefusal (headerIn request) (length (wordsIn request)) lent in
       let words = wordsRefusal (headerIn request) 0 (wordsIn request) in
-      let all = in-order request cells log distances parents n in
+      let all = in-order request lent n in
       let outer = orElse-none (headerRefusal (headerIn request)) (orElse sizes words) in
       let inner = orElse-none sizes words in (
         λ e. let (a, p) = outer .0 (sym all ∙ e) in let (b, c) = inner .0 p in (a, b, c),
         λ p. all ∙ outer .1 (p .0, inner .1 (p .1, p .2)),
       )
 
-  keeps : requestRefusal request cells log distances parents ≡ none → WithinLimits request cells log distances parents
+  keeps : requestRefusal request lent ≡ none → WithinLimits request lent
   unfolding wordCountOf cellsOf
   keeps e =
-      let some-word : length request ≡ 0 → ⊥ = λ z. Option·some-ne-none Method (no-word request cells log distances parents z ∙ e) in
+      let some-word : length request ≡ 0 → ⊥ = λ z. Option·some-ne-none Method (no-word request lent z ∙ e) in
       let (header, sizes, words) = all-none some-word .0 e in
       let a = accepted (headerIn request) (sym header) in
-      let method = in-numbers (headerIn request .method) (a .known) in
-      let s = sizes-none (headerIn request) _ cells log distances parents sizes in
+      let s = sizes-none (headerIn request) _ lent .0 sizes in
       record {
         some-word = omega arith;
         limits =
             record {
-              method-some = method .0;
-              method-known = method .1;
+              method-known = method-is (headerIn request .method) (a .known);
               vertices-some = a .vertices-some;
               vertices-few = a .vertices-few;
               edges-few = a .edges-few;
               source-there = a .source-there;
-              counted = s .0;
-              cells-enough = s .1;
-              log-enough = rw (log-figure (headerIn request) a) (s .2);
-              distances-enough = s .3;
-              parents-enough = s .4;
+              counted = s .counted;
+              cells-enough = s .cells;
+              log-enough = rw (log-figure (headerIn request) a) (s .log);
+              results-enough = rw (results-figure (headerIn request) a) (s .results);
               words-within = words-good (headerIn request) a 0 (wordsIn request) words;
             };
       }
 
   -- ---- what a request within the limits has, by the definitions that the code's contracts cite
 
-  module _ (w : WithinLimits request cells log distances parents) where
+  module _ (w : WithinLimits request lent) where
     known-in : knownMethod (headerIn request .method) ≡ true
-    known-in = from-numbers (headerIn request .method) (w .limits .method-some) (w .limits .method-known)
+    known-in = is-known (headerIn request .method) (w .limits .method-known)
 
     pub accepted-in : Accepted (headerIn request)
     accepted-in =
@@ -230,25 +214,27 @@ module _ (request : List ℕ) (cells log distances parents : ℕ) where
     unfolding wordCountOf
     counted-in = w .limits .counted
 
-    pub cells-in : cellsOf (headerIn request) ≤ cells
+    pub cells-in : cellsOf (headerIn request) ≤ lent .cells
     unfolding cellsOf
     cells-in = w .limits .cells-enough
 
-    pub log-in : logLengthOf (headerIn request) ≤ log
+    pub log-in : logLengthOf (headerIn request) ≤ lent .log
     log-in = rw (log-figure (headerIn request) accepted-in) at (w .limits .log-enough)
 
-    meets-none : requestRefusal request cells log distances parents ≡ none
+    pub results-in : (k : Kind) → resultsOf (headerIn request) k .count ≤ roomFor lent k
+    results-in = rw (results-figure (headerIn request) accepted-in) at (w .limits .results-enough)
+
+    meets-none : requestRefusal request lent ≡ none
     meets-none =
         let h = headerIn request in
         let l = w .limits in
         let header =
         none-met h known-in (l .vertices-some) (l .vertices-few) (l .edges-few) (l .source-there) in
-        let sizes =
-        sizes-met h _ cells log distances parents counted-in cells-in log-in (l .distances-enough) (l .parents-enough) in
+        let sizes = sizes-none h _ lent .1 (record { counted = counted-in; cells = cells-in; log = log-in; results = results-in }) in
         all-none (omega (arith, w .some-word)) .1
-        (sym header, sym sizes, good-words h accepted-in 0 (wordsIn request) (l .words-within))
+        (sym header, sizes, good-words h accepted-in 0 (wordsIn request) (l .words-within))
 
-  pub within : (requestRefusal request cells log distances parents ≡ none) ↔ WithinLimits request cells log distances parents
+  pub within : (requestRefusal request lent ≡ none) ↔ WithinLimits request lent
   within = (keeps, meets-none)
 
 -- ---- how large the fields are
@@ -257,12 +243,12 @@ either-way : (z : ℤ) → negsuc 999999 ≤ℤ z → z ≤ℤ pos 1000000 → n
 either-way (pos n) a b = leb→le n 1000000 (b .le)
 either-way (negsuc n) a b = omega (arith, leb→le n 999999 (a .le))
 
-module _ (request : List ℕ) (cells log distances parents : ℕ) (w : WithinLimits request cells log distances parents) (i : ℕ) where
+module _ (request : List ℕ) (lent : Lengths) (w : WithinLimits request lent) (i : ℕ) where
   -- Method 1: word i is an edge's.
   pub edge-in : headerIn request .method ≡ 1 → i < headerIn request .edges
       → EdgeWithin (headerIn request .vertices) (getD (wordsIn request) i 0)
   edge-in one l =
-      let there : i < length (wordsIn request) = omega (arith, words-one (headerIn request) one, counted-in _ _ _ _ _ w) in
+      let there : i < length (wordsIn request) = omega (arith, words-one (headerIn request) one, counted-in _ _ w) in
       rw one at (w .limits .words-within i there)
 
   pub weight-small : headerIn request .method ≡ 1 → i < headerIn request .edges → natAbs (weightOf (getD (wordsIn request) i 0)) ≤ 1000000
@@ -272,5 +258,5 @@ module _ (request : List ℕ) (cells log distances parents : ℕ) (w : WithinLim
   pub entry-in : headerIn request .method ≡ 2 → i < headerIn request .vertices * headerIn request .vertices
       → EntryWithin (getD (wordsIn request) i 0)
   entry-in two l =
-      let there : i < length (wordsIn request) = omega (arith, words-two (headerIn request) two, counted-in _ _ _ _ _ w) in
+      let there : i < length (wordsIn request) = omega (arith, words-two (headerIn request) two, counted-in _ _ w) in
       rw two at (w .limits .words-within i there)

@@ -1,5 +1,5 @@
 -- Document 01, "Request words" and "Who caused it", as facts about literal requests and buffer lengths: limits at their ends and one past them,
--- which of two refusals comes first, and the starting cells. Rests on the definitions alone.
+-- which of two refusals comes first, where a cell's first number comes from, and the starting cells. Rests on the definitions alone.
 use mathlib.Core.Path.{_≡_}
 use mathlib.Core.List.{List, [], _∷_, _++_}
 use mathlib.Core.Option.{Option, none, some}
@@ -10,9 +10,11 @@ use Rattle.answers.specs.declared.Refusal.{Refusal}
 use Rattle.answers.specs.Told.{Told, refused}
 use Rattle.answers.specs.Facts.{byNumber, atPlace}
 use Rattle.plans.specs.Plan.{headerOf}
-use Rattle.requests.specs.Refusal.{wordCountOf, logLengthOf, requestRefusal}
+use Rattle.requests.specs.declared.Lengths.{Lengths}
+use Rattle.requests.specs.declared.intake.Part.the-variants.{From, To, Weight, Entry}
+use Rattle.requests.specs.Refusal.{logLengthOf, requestRefusal}
 use Rattle.requests.specs.Sizes.{asking, sizesTold}
-use Rattle.requests.specs.Intake.{startingCells, distanceCell, parentCell}
+use Rattle.requests.specs.Intake.{field, nothing, sourceOf, startingCells}
 
 -- What a check tells; 0 where it lets a request pass.
 abbrev pub noRefusal : Told
@@ -22,9 +24,12 @@ abbrev pub met : Option Refusal → Told
 met none = noRefusal
 met (some r) = refused r
 
--- A request with buffers of these lengths: cells, log, distances, parents.
+-- A request with buffers of these lengths.
+abbrev pub lengths : (cells log distances parents : ℕ) → Lengths
+lengths cells log distances parents = record { cells = cells; log = log; distances = distances; parents = parents }
+
 abbrev pub tried : (request : List ℕ) (cells log distances parents : ℕ) → Told
-tried request cells log distances parents = met (requestRefusal request cells log distances parents)
+tried request cells log distances parents = met (requestRefusal request (lengths cells log distances parents))
 
 -- Method 1, n = 2, source 0, of one edge; method 2, n = 1: with buffers just long enough.
 abbrev pub edge : (word : ℕ) → Told
@@ -63,8 +68,6 @@ pub record Facts : Type 0 where
       × (tried (0x2000020000000000 ∷ 0 ∷ 0 ∷ 0 ∷ []) 20 67 2 2 ≡ byNumber 5)
       × (tried (0x2000020000000000 ∷ 0 ∷ 0 ∷ 0 ∷ 0 ∷ []) 20 67 2 2 ≡ noRefusal)
       × (tried (0x2000020000000000 ∷ 0 ∷ 0 ∷ 0 ∷ 0 ∷ 0 ∷ []) 20 67 2 2 ≡ byNumber 5)
-      × (wordCountOf (headerOf 0x100020000800001F) ≡ 128)
-      × (wordCountOf (headerOf 0x200020000000001F) ≡ 1024)
   -- "too few cells", "log .. too short", "a results buffer shorter than n": one less than asked, and longer ones.
   pub sizes1 : (tried (0x1000020000100000 ∷ 0 ∷ []) 16 48 2 2 ≡ byNumber 6)
       × (tried (0x1000020000100000 ∷ 0 ∷ []) 17 47 2 2 ≡ byNumber 7)
@@ -79,8 +82,8 @@ pub record Facts : Type 0 where
   -- Method 1's "log is one word longer" than its plan, at the limits; method 2's is not.
   pub logs : (logLengthOf (headerOf 0x100020000800001F) ≡ 1060837) × (logLengthOf (headerOf 0x200020000000001F) ≡ 44227)
   -- What a caller is told to lend: the most of each method; a second word is not looked at. And no header word, a source that is not below n.
-  pub asked : (sizesTold (0x100020000800001F ∷ []) ≡ asking 488 1060837 32)
-      × (sizesTold (0x200020000000001F ∷ 0 ∷ []) ≡ asking 1190 44227 32)
+  pub asked : (sizesTold (0x100020000800001F ∷ []) ≡ asking (lengths 488 1060837 32 32))
+      × (sizesTold (0x200020000000001F ∷ 0 ∷ []) ≡ asking (lengths 1190 44227 32 32))
       × (sizesTold [] ≡ byNumber 1)
       × (sizesTold (0x1000200008000020 ∷ []) ≡ byNumber 4)
   -- "Order: 1 to 8 by number, then input words": requests that would meet two neighbours, or all, meet the lower.
@@ -103,18 +106,28 @@ pub record Facts : Type 0 where
       × (tried (0x1000020000200000 ∷ 0 ∷ 0x0200000000000000 ∷ []) 20 85 2 2 ≡ atPlace 10 1)
       × (tried (0x1000020000200000 ∷ 0 ∷ 0x00000000000F4241 ∷ []) 20 85 2 2 ≡ atPlace 11 1)
       × (tried (0x2000020000000000 ∷ 0 ∷ 0 ∷ 0 ∷ 0x00000000FFFFFFFE ∷ []) 20 67 2 2 ≡ atPlace 11 3)
+  -- "from 0, to m, price 2m": the first and the last cell of each, of one lane and of the most, and the cell after them; and where there is no lane.
+  pub strips1 : (sourceOf (headerOf 0x1000020000100000) 0 ≡ field 0 From)
+      × (sourceOf (headerOf 0x1000020000100000) 1 ≡ field 0 To)
+      × (sourceOf (headerOf 0x1000020000100000) 2 ≡ field 0 Weight)
+      × (sourceOf (headerOf 0x1000020000100000) 3 ≡ nothing)
+      × (sourceOf (headerOf 0x100020000800001F) 0 ≡ field 0 From)
+      × (sourceOf (headerOf 0x100020000800001F) 127 ≡ field 127 From)
+      × (sourceOf (headerOf 0x100020000800001F) 128 ≡ field 0 To)
+      × (sourceOf (headerOf 0x100020000800001F) 255 ≡ field 127 To)
+      × (sourceOf (headerOf 0x100020000800001F) 256 ≡ field 0 Weight)
+      × (sourceOf (headerOf 0x100020000800001F) 383 ≡ field 127 Weight)
+      × (sourceOf (headerOf 0x100020000800001F) 384 ≡ nothing)
+      × (sourceOf (headerOf 0x1000010000000000) 0 ≡ nothing)
+  -- "U at 0", by rows: of one yard and of the most.
+  pub strips2 : (sourceOf (headerOf 0x2000010000000000) 0 ≡ field 0 Entry)
+      × (sourceOf (headerOf 0x2000010000000000) 1 ≡ nothing)
+      × (sourceOf (headerOf 0x200020000000001F) 0 ≡ field 0 Entry)
+      × (sourceOf (headerOf 0x200020000000001F) 1023 ≡ field 1023 Entry)
+      × (sourceOf (headerOf 0x200020000000001F) 1024 ≡ nothing)
   -- "Intake fills the first 3m; the rest start at 0": lanes 1 to 0 at -5 and 0 to 1 at 1,000,000 laid into 22 lent cells, two more than needed.
   pub start1 : startingCells (headerOf 0x1000020000200000) (0x01000000FFFFFFFB ∷ 0x00010000000F4240 ∷ []) (replicate 22 (pos 9))
       ≡ (pos 1 ∷ pos 0 ∷ pos 0 ∷ pos 1 ∷ negsuc 4 ∷ pos 1000000 ∷ []) ++ replicate 14 (pos 0) ++ (pos 9 ∷ pos 9 ∷ [])
   -- "Intake writes the prices to U, FAR for -1; the rest start at 0."
   pub start2 : startingCells (headerOf 0x2000020000000000) (0 ∷ 0x00000000FFFFFFFF ∷ 0x00000000000F4240 ∷ 7 ∷ []) (replicate 22 (pos 9))
       ≡ (pos 0 ∷ pos 274877906944 ∷ pos 1000000 ∷ pos 7 ∷ []) ++ replicate 16 (pos 0) ++ (pos 9 ∷ pos 9 ∷ [])
-  -- "Results .. are copies of cells the run left .. D+v and P+v": the cells of the last of two yards, and of the last of the most.
-  pub results : (distanceCell (headerOf 0x1000020000200000) 1 ≡ 7)
-      × (parentCell (headerOf 0x1000020000200000) 1 ≡ 9)
-      × (distanceCell (headerOf 0x2000020000000000) 1 ≡ 5)
-      × (parentCell (headerOf 0x2000020000000000) 1 ≡ 7)
-      × (distanceCell (headerOf 0x100020000800001F) 31 ≡ 415)
-      × (parentCell (headerOf 0x100020000800001F) 31 ≡ 447)
-      × (distanceCell (headerOf 0x200020000000001F) 31 ≡ 1055)
-      × (parentCell (headerOf 0x200020000000001F) 31 ≡ 1087)

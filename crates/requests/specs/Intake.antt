@@ -1,40 +1,58 @@
 -- Intake (document 01, "Cell words"): it only lays fields of the request's words into cells, a field to a cell, at places fixed by the
--- header; the rest of the needed cells start at 0. And the places that results are copied from. Rests on the methods' cells.
-use mathlib.Core.Bool.{cond}
+-- header; the rest of the needed cells start at 0. Rests on the methods' cells.
+use mathlib.Core.Bool.{Bool, cond, _&&_}
 use mathlib.Core.List.{List, [], _∷_, _++_}
-use Prim.Native.Nat.{ℕ, _-_, _*_}
-use lib.Dec.{ltb}
+use Prim.Native.Nat.{ℕ, _+_, _-_, _*_, _≤_}
+use lib.Dec.{leb, ltb}
 use lib.IntN.{ℤ, pos, negsuc}
-use lib.ListN.{getD, drop}
+use lib.ListN.{length, getD, drop, replicate}
 use Rattle.machine.specs.Effect.{eqZ}
 use Rattle.plans.specs.declared.Header.{Header}
 use Rattle.plans.specs.Limits.{far, byMethod}
 use Rattle.plans.specs.Blocks.{flat}
-use Rattle.plans.specs.Method1 as Method1
-use Rattle.plans.specs.Method2 as Method2
 use Rattle.plans.specs.Plan.{cellsOf}
+use Rattle.requests.specs.declared.intake.Part.{Part}
+use Rattle.requests.specs.declared.intake.Part.the-variants.{From, To, Weight, Entry}
+use Rattle.requests.specs.declared.intake.Strip.{Strip}
 use Rattle.requests.specs.Word.{fromField, toField, weightOf}
 
--- ---- where a needed cell's first number comes from
+-- ---- what is laid, by method
 
--- A field of a word. `entry` is method 2's weight, -1 as FAR.
-pub data Part : Type 0 where
-  from to weight entry : Part
+-- A strip: `count` cells from `at` on, each with one part of one word, of the words from `word` on.
+abbrev pub strip : (at count word : ℕ) (part : Part) → Strip
+strip at count word part = record { at = at; count = count; word = word; part = part }
+
+unfoldable pub stripsOf : Header → List Strip
+stripsOf h =
+    let n = h .vertices in
+    let m = h .edges in
+    byMethod (h .method) []
+    ((strip 0 m 0 From ∷ strip m m 0 To ∷ strip (2 * m) m 0 Weight ∷ [])
+    ∷ (strip 0 (n * n) 0 Entry ∷ [])
+    ∷ [])
+
+-- ---- where a needed cell's first number comes from
 
 -- One field of one of the words after the header, or 0.
 pub data Source : Type 0 where
   field : (word : ℕ) (part : Part) → Source
   nothing : Source
 
+-- The i-th cell of a strip.
+abbrev pub sourceIn : Strip → (i : ℕ) → Source
+sourceIn r i = field (r .word + i) (r .part)
+
+abbrev pub covers : Strip → (cell : ℕ) → Bool
+covers r k = leb (r .at) k && ltb k (r .at + r .count)
+
+-- Of strips laid one after the other the last that covers a cell counts; before them it had s.
+abbrev pub sourceFrom : List Strip → (cell : ℕ) (s : Source) → Source
+sourceFrom [] k s = s
+sourceFrom (r ∷ rs) k s = sourceFrom rs k (cond (covers r k) (sourceIn r (k - r .at)) s)
+
 -- It follows from the header and the cell alone.
 unfoldable pub sourceOf : Header → (cell : ℕ) → Source
-sourceOf h k =
-    byMethod (h .method) nothing
-    (cond (ltb k (h .edges)) (field k from)
-    (cond (ltb k (2 * h .edges)) (field (k - h .edges) to)
-    (cond (ltb k (3 * h .edges)) (field (k - 2 * h .edges) weight) nothing))
-    ∷ cond (ltb k (h .vertices * h .vertices)) (field k entry) nothing
-    ∷ [])
+sourceOf h k = sourceFrom (stripsOf h) k nothing
 
 -- ---- the starting cells
 
@@ -42,11 +60,12 @@ sourceOf h k =
 abbrev pub orFar : ℤ → ℤ
 orFar z = cond (eqZ z (negsuc 0)) far z
 
+-- A field of a word. `Entry` is method 2's weight, -1 as FAR.
 abbrev pub partOf : Part → (word : ℕ) → ℤ
-partOf from w = pos (fromField w)
-partOf to w = pos (toField w)
-partOf weight w = weightOf w
-partOf entry w = orFar (weightOf w)
+partOf From w = pos (fromField w)
+partOf To w = pos (toField w)
+partOf Weight w = weightOf w
+partOf Entry w = orFar (weightOf w)
 
 -- What a source gives, from the words after the header.
 unfoldable pub laid : List ℕ → Source → ℤ
@@ -61,12 +80,23 @@ copied count f buffer = flat count (λ k. f k ∷ []) ++ drop count buffer
 unfoldable pub startingCells : (h : Header) (words : List ℕ) (lent : List ℤ) → List ℤ
 startingCells h ws lent = copied (cellsOf h) (λ k. laid ws (sourceOf h k)) lent
 
--- ---- the cells that results are copied from
+-- ---- strip by strip, as the code lays them
 
-unfoldable pub distanceCell : Header → (vertex : ℕ) → ℕ
-distanceCell h v =
-    byMethod (h .method) 0 (Method1.places (h .vertices) (h .edges) .D v ∷ Method2.places (h .vertices) .D v ∷ [])
+-- The numbers that a strip's cells get.
+abbrev pub numbersOf : Strip → List ℕ → List ℤ
+numbersOf r ws = flat (r .count) (λ i. laid ws (sourceIn r i) ∷ [])
 
-unfoldable pub parentCell : Header → (vertex : ℕ) → ℕ
-parentCell h v =
-    byMethod (h .method) 0 (Method1.places (h .vertices) (h .edges) .P v ∷ Method2.places (h .vertices) .P v ∷ [])
+-- Its words and its cells are there.
+pub record Fits (words cells : ℕ) (r : Strip) : Type 0 where
+  pub read : r .word + r .count ≤ words
+  pub written : r .at + r .count ≤ cells
+
+-- The code has the strips of a method in an array, as long as the most of them, with empty ones after those that there are.
+abbrev pub mostStrips : ℕ
+mostStrips = 3
+
+abbrev pub empty : Strip
+empty = strip 0 0 0 From
+
+abbrev pub padded : List Strip → List Strip
+padded rs = rs ++ replicate (mostStrips - length rs) empty

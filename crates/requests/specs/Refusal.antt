@@ -3,7 +3,7 @@
 use mathlib.Core.Bool.{Bool, false, _&&_}
 use mathlib.Core.List.{List, [], _∷_}
 use mathlib.Core.Option.{Option, none, some}
-use Prim.Native.Nat.{ℕ, suc, _+_, _*_}
+use Prim.Native.Nat.{ℕ, suc, _+_}
 use lib.Dec.{ltb, leb, eqb}
 use lib.IntN.{pos}
 use lib.ListN.{length}
@@ -12,27 +12,28 @@ use Rattle.answers.specs.declared.Refusal.{Refusal}
 use Rattle.answers.specs.Refusal.{Method, Words, Cells, Log, Results, Edge, Weight, need, orElse}
 use Rattle.plans.specs.declared.Header.{Header}
 use Rattle.plans.specs.Limits.{byMethod, mostWeight, leastWeight}
-use Rattle.plans.specs.Plan.{headerOf, cellsOf, verdictCell, published, lengthOf}
+use Rattle.plans.specs.Plan.{headerOf, wordCountOf, cellsOf, Kind, byKind, everyKind, resultsOf, verdictCell, published, lengthOf}
 use Rattle.planner.specs.Refusal.{headerRefusal}
+use Rattle.requests.specs.declared.Lengths.{Lengths}
 use Rattle.requests.specs.Word.{fromField, toField, spareOfEdge, spareOfEntry, weightOf}
 
--- ---- what the header asks for
-
--- How many words follow the header.
-unfoldable pub wordCountOf : Header → ℕ
-wordCountOf h = byMethod (h .method) 0 (h .edges ∷ (h .vertices * h .vertices) ∷ [])
+-- ---- sizes
 
 -- How many words the log has: the plan's and the published one, where there is one.
 unfoldable pub logLengthOf : Header → ℕ
 logLengthOf h = lengthOf h + length (published (verdictCell h) 0)
 
+-- The length of the buffer for a kind of results.
+abbrev pub roomFor : Lengths → Kind → ℕ
+roomFor l = byKind (l .distances) (l .parents)
+
 -- 5 to 8, from the number of words after the header and the lengths of the lent buffers.
-unfoldable pub sizesRefusal : (h : Header) (words cells log distances parents : ℕ) → Option Refusal
-sizesRefusal h words cells log distances parents =
+unfoldable pub sizesRefusal : (h : Header) (words : ℕ) → (lent : Lengths) → Option Refusal
+sizesRefusal h words lent =
     need (eqb words (wordCountOf h)) Words
-    (need (leb (cellsOf h) cells) Cells
-    (need (leb (logLengthOf h) log) Log
-    (need (leb (h .vertices) distances && leb (h .vertices) parents) Results none)))
+    (need (leb (cellsOf h) (lent .cells)) Cells
+    (need (leb (logLengthOf h) (lent .log)) Log
+    (need (everyKind (λ k. leb (resultsOf h k .count) (roomFor lent k))) Results none)))
 
 -- ---- the words
 
@@ -59,9 +60,8 @@ wordsRefusal h place (w ∷ ws) = orElse (wordRefusal h place w) (wordsRefusal h
 
 -- ---- the request
 
--- From the request and the lengths of the lent cells, log, distances and parents.
-unfoldable pub requestRefusal : (request : List ℕ) (cells log distances parents : ℕ) → Option Refusal
-requestRefusal [] cells log distances parents = some Method
-requestRefusal (w ∷ ws) cells log distances parents =
-    orElse (headerRefusal (headerOf w))
-    (orElse (sizesRefusal (headerOf w) (length ws) cells log distances parents) (wordsRefusal (headerOf w) 0 ws))
+-- From the request and the lengths of the lent buffers.
+unfoldable pub requestRefusal : (request : List ℕ) → (lent : Lengths) → Option Refusal
+requestRefusal [] lent = some Method
+requestRefusal (w ∷ ws) lent =
+    orElse (headerRefusal (headerOf w)) (orElse (sizesRefusal (headerOf w) (length ws) lent) (wordsRefusal (headerOf w) 0 ws))

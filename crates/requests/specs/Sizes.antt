@@ -6,24 +6,35 @@ use Rattle.answers.specs.declared.Refusal.{Refusal}
 use Rattle.answers.specs.Refusal.{Method}
 use Rattle.answers.specs.Told.{Told, refused}
 use Rattle.plans.specs.declared.Header.{Header}
-use Rattle.plans.specs.Plan.{headerOf, cellsOf}
+use Rattle.plans.specs.Plan.{headerOf, cellsOf, distances, parents, resultsOf}
 use Rattle.planner.specs.Refusal.{headerRefusal}
+use Rattle.requests.specs.declared.Lengths.{Lengths}
 use Rattle.requests.specs.declared.Asked.{Asked}
 use Rattle.requests.specs.declared.Asked.the-variants.{Needs, Refused}
 use Rattle.requests.specs.Refusal.{logLengthOf}
 
--- Cells, words of the log, and places of each results buffer.
-abbrev pub asking : (cells log results : ℕ) → Told
-asking cells log results = record { number = 0; place = none; values = cells ∷ log ∷ results ∷ [] }
+-- Cells, words of the log, and places of the results buffers, kind by kind.
+abbrev pub asking : Lengths → Told
+asking l = record { number = 0; place = none; values = l .cells ∷ l .log ∷ l .distances ∷ l .parents ∷ [] }
 
 -- What an answer says.
 abbrev pub toldBySizes : Asked → Told
-toldBySizes (Needs lengths) = asking (lengths .cells) (lengths .log) (lengths .results)
+toldBySizes (Needs lengths) = asking lengths
 toldBySizes (Refused r) = refused r
+
+-- The lengths that a header asks for.
+abbrev pub askedOf : Header → Lengths
+askedOf h =
+    record {
+      cells = cellsOf h;
+      log = logLengthOf h;
+      distances = resultsOf h distances .count;
+      parents = resultsOf h parents .count;
+    }
 
 -- For the refusal that the header meets.
 abbrev pub askedBy : Option Refusal → Header → Told
-askedBy none h = asking (cellsOf h) (logLengthOf h) (h .vertices)
+askedBy none h = asking (askedOf h)
 askedBy (some r) h = refused r
 
 -- Of a header's first word: 1 to 4, or the sizes.

@@ -9,8 +9,10 @@ use lib.ListN.{length, getD, drop}
 use lib.Signed.{_≤ℤ_}
 use Rattle.plans.specs.declared.Header.{Header}
 use Rattle.plans.specs.Limits.{byMethod}
-use Rattle.plans.specs.Plan.{headerOf}
+use Rattle.plans.specs.Plan.{headerOf, Kind, byKind}
+use Rattle.requests.specs.declared.Lengths.{Lengths}
 use Rattle.requests.specs.Word.{fromField, toField, spareOfEdge, spareOfEntry, weightOf}
+use Rattle.requests.specs.Refusal.{roomFor}
 
 -- A request's header, and the words after it.
 abbrev pub headerIn : (request : List ℕ) → Header
@@ -40,23 +42,22 @@ WordWithin method n word = byMethod method ⊥ (EdgeWithin n word ∷ EntryWithi
 -- ---- the request
 
 -- Of the header's numbers, the words after it, and the lengths of the lent buffers.
-pub record Limits (method n m source : ℕ) (words : List ℕ) (cells log distances parents : ℕ) : Type 0 where
-  pub method-some : 1 ≤ method
-  pub method-known : method ≤ 2
+pub record Limits (method n m source : ℕ) (words : List ℕ) (lent : Lengths) : Type 0 where
+  pub method-known : (method ≡ 1) ⊎ (method ≡ 2)
   pub vertices-some : 1 ≤ n
   pub vertices-few : n ≤ 32
   pub edges-few : m ≤ byMethod method 0 (128 ∷ 0 ∷ [])
   pub source-there : source < n
   pub counted : length words ≡ byMethod method 0 (m ∷ n * n ∷ [])
-  pub cells-enough : byMethod method 0 ((3 * m + 3 * n + 8) ∷ (n * n + 5 * n + 6) ∷ []) ≤ cells
+  pub cells-enough : byMethod method 0 ((3 * m + 3 * n + 8) ∷ (n * n + 5 * n + 6) ∷ []) ≤ lent .cells
   pub log-enough :
-      byMethod method 0 ((3 * n + 5 + m * (8 * (n * n) + 3 * n - 1)) ∷ (n * n * n + 11 * (n * n) + 6 * n + 3) ∷ []) ≤ log
-  pub distances-enough : n ≤ distances
-  pub parents-enough : n ≤ parents
+      byMethod method 0 ((3 * n + 5 + m * (8 * (n * n) + 3 * n - 1)) ∷ (n * n * n + 11 * (n * n) + 6 * n + 3) ∷ []) ≤ lent .log
+  -- n distances and n parents, in either method.
+  pub results-enough : (k : Kind) → byMethod method (λ k. 0) (byKind n n ∷ byKind n n ∷ []) k ≤ roomFor lent k
   pub words-within : (i : ℕ) → i < length words → WordWithin method n (getD words i 0)
 
-pub record WithinLimits (request : List ℕ) (cells log distances parents : ℕ) : Type 0 where
+pub record WithinLimits (request : List ℕ) (lent : Lengths) : Type 0 where
   pub some-word : 1 ≤ length request
   pub limits :
       Limits (headerIn request .method) (headerIn request .vertices) (headerIn request .edges) (headerIn request .source)
-      (wordsIn request) cells log distances parents
+      (wordsIn request) lent

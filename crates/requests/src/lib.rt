@@ -1,24 +1,28 @@
-// Requests: what a header asks for, which refusal a request meets, and intake, which lays its words into cells.
+// Requests: what a header asks for, which refusal a request meets, and intake, which lays its words into cells (a module).
 // Rests on answers, planner, plans and fields.
+pub mod intake;
+
 use answers::Checked;
 use answers::Refusal;
+use planner::Figures;
 use planner::VerdictCell;
 use plans::Header;
 ghost use mathlib.Core.Path.{_≡_};
-ghost use Prim.Native.Nat.{_<_, _≤_};
+ghost use Prim.Native.Nat.{_<_};
 ghost use lib.ListN.{length, drop};
 ghost use Rattle.answers.specs.Refusal.{found};
-ghost use Rattle.plans.specs.Plan.{Accepted, cellsOf};
+ghost use Rattle.plans.specs.Plan.{Accepted};
+ghost use Rattle.planner.specs.Figures.{Figured};
 ghost use Rattle.requests.specs.Word as Word;
-ghost use Rattle.requests.specs.Refusal.{wordCountOf, logLengthOf, sizesRefusal, shapeGood, weightGood, wordRefusal, wordsRefusal, requestRefusal};
-ghost use Rattle.requests.specs.Sizes.{toldBySizes, sizesTold};
-ghost use Rattle.requests.specs.Intake.{sourceOf, laid, startingCells};
+ghost use Rattle.requests.specs.Refusal.{logLengthOf, sizesRefusal, shapeGood, weightGood, wordRefusal, wordsRefusal, requestRefusal};
+ghost use Rattle.requests.specs.Sizes.{toldBySizes, askedOf, sizesTold};
 
-// What a request's caller lends: cells, words of the log, and places of each results buffer.
+// Lengths of a request's buffers, lent or asked for: cells, words of the log, and places of the results buffers, kind by kind.
 pub struct Lengths {
     pub cells: usize,
     pub log: usize,
-    pub results: usize,
+    pub distances: usize,
+    pub parents: usize,
 }
 
 pub enum Asked {
@@ -28,37 +32,28 @@ pub enum Asked {
 
 // ---- sizes that follow from the header
 
-fn words_needed(h: Header) -> usize
-    requires { ⌜ Accepted h ⌝ }
-    ensures { λ r. ⌜ r ≡ wordCountOf h ⌝ }
-{
-    let n = h.vertices as usize;
-    if h.method == 1 {
-        return h.edges as usize;
-    }
-    n * n
-}
-
-pub fn cells_needed(h: Header) -> usize
-    requires { ⌜ Accepted h ⌝ }
-    ensures { λ r. ⌜ r ≡ cellsOf h ⌝ }
-{
-    let n = h.vertices as usize;
-    if h.method == 1 {
-        let m = h.edges as usize;
-        return 3 * m + 3 * n + 8;
-    }
-    n * n + 5 * n + 6
-}
-
-fn log_needed(h: Header) -> usize
-    requires { ⌜ Accepted h ⌝ }
+// The words of the log: the plan's and the published one, where there is one.
+fn log_length(h: Header, f: Figures) -> usize
+    requires { ⌜ Accepted h × Figured h f ⌝ }
     ensures { λ r. ⌜ r ≡ logLengthOf h ⌝ }
 {
-    let size = planner::plan_length(h);
-    match planner::verdict_cell(h) {
-        VerdictCell::At(_) => size + 1,
-        VerdictCell::Nothing => size,
+    let verdict = f.verdict;
+    match verdict {
+        VerdictCell::At(_) => f.length + 1,
+        VerdictCell::Nothing => f.length,
+    }
+}
+
+// What a header asks for.
+fn lengths_of(h: Header, f: Figures) -> Lengths
+    requires { ⌜ Accepted h × Figured h f ⌝ }
+    ensures { λ r. ⌜ r ≡ askedOf h ⌝ }
+{
+    Lengths {
+        cells: f.cells,
+        log: log_length(h, f),
+        distances: f.distances.count,
+        parents: f.parents.count,
     }
 }
 
@@ -73,44 +68,32 @@ pub fn sizes_needed(header: &[u64]) -> Asked
     if let Checked::Refused(refusal) = planner::check_header(h) {
         return Asked::Refused(refusal);
     }
-    let cells = cells_needed(h);
-    let log = log_needed(h);
-    let results = h.vertices as usize;
-    Asked::Needs(Lengths {
-        cells,
-        log,
-        results,
-    })
+    let f = planner::figures_of(h);
+    Asked::Needs(lengths_of(h, f))
 }
 
 // ---- refusals
 
 // 5 to 8.
-fn check_sizes(
-    h: Header,
-    words: usize,
-    cells: usize,
-    log: usize,
-    distances: usize,
-    parents: usize,
-) -> Checked
+fn check_sizes(h: Header, words: usize, lent: Lengths) -> Checked
     requires { ⌜ Accepted h ⌝ }
-    ensures { λ r. ⌜ found r ≡ sizesRefusal h words cells log distances parents ⌝ }
+    ensures { λ r. ⌜ found r ≡ sizesRefusal h words lent ⌝ }
 {
-    if words != words_needed(h) {
+    let f = planner::figures_of(h);
+    let asked = lengths_of(h, f);
+    if words != f.words {
         return Checked::Refused(answers::WORDS);
     }
-    if cells < cells_needed(h) {
+    if lent.cells < asked.cells {
         return Checked::Refused(answers::CELLS);
     }
-    if log < log_needed(h) {
+    if lent.log < asked.log {
         return Checked::Refused(answers::LOG);
     }
-    let n = h.vertices as usize;
-    if distances < n {
+    if lent.distances < asked.distances {
         return Checked::Refused(answers::RESULTS);
     }
-    if parents < n {
+    if lent.parents < asked.parents {
         return Checked::Refused(answers::RESULTS);
     }
     Checked::Accepted
@@ -182,8 +165,8 @@ fn check_words(h: Header, request: &[u64]) -> Checked
 }
 
 // The first refusal of a request, by the lengths of the lent buffers.
-pub fn check(request: &[u64], cells: usize, log: usize, distances: usize, parents: usize) -> Checked
-    ensures { λ r. ⌜ found r ≡ requestRefusal (now (request .entry)) cells log distances parents ⌝ }
+pub fn check(request: &[u64], lent: Lengths) -> Checked
+    ensures { λ r. ⌜ found r ≡ requestRefusal (now (request .entry)) lent ⌝ }
 {
     if request.len() == 0 {
         return Checked::Refused(answers::METHOD);
@@ -192,60 +175,8 @@ pub fn check(request: &[u64], cells: usize, log: usize, distances: usize, parent
     if let Checked::Refused(refusal) = planner::check_header(h) {
         return Checked::Refused(refusal);
     }
-    if let Checked::Refused(refusal) = check_sizes(
-        h,
-        request.len() - 1,
-        cells,
-        log,
-        distances,
-        parents,
-    ) {
+    if let Checked::Refused(refusal) = check_sizes(h, request.len() - 1, lent) {
         return Checked::Refused(refusal);
     }
     check_words(h, request)
-}
-
-// ---- intake
-
-// What cell k starts with.
-fn start_cell(h: Header, request: &[u64], k: usize) -> i64
-    requires { ⌜ Accepted h × (length (drop 1 (now request)) ≡ wordCountOf h) × (k < cellsOf h) ⌝ }
-    ensures { λ r. ⌜ r ≡ laid (drop 1 (now (request .entry))) (sourceOf h k) ⌝ }
-{
-    let n = h.vertices as usize;
-    let m = h.edges as usize;
-    if h.method == 1 {
-        if k < m {
-            return fields::field(request[k + 1], 56, 8) as i64;
-        }
-        if k < 2 * m {
-            return fields::field(request[k - m + 1], 48, 8) as i64;
-        }
-        if k < 3 * m {
-            return weight(request[k - 2 * m + 1]);
-        }
-        return 0;
-    }
-    if k < n * n {
-        let value = weight(request[k + 1]);
-        if value == -1 {
-            return plans::FAR;
-        }
-        return value;
-    }
-    0
-}
-
-// The needed cells laid; the others stay.
-pub fn lay(h: Header, request: &[u64], cells: &mut [i64])
-    requires { ⌜ Accepted h × (length (drop 1 (now request)) ≡ wordCountOf h) × (cellsOf h ≤ length (now cells)) ⌝ }
-    ensures { λ _. ⌜ now (cells .exit) ≡ startingCells h (drop 1 (now (request .entry))) (now (cells .entry)) ⌝ }
-{
-    let count = cells_needed(h);
-    let mut k: usize = 0;
-    while k < count {
-        let value = start_cell(h, request, k);
-        cells[k] = value;
-        k += 1;
-    }
 }

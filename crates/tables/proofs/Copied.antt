@@ -1,27 +1,18 @@
 -- Laws of the loop that repeats a block by copying each word from one block's length before.
--- Rests on Written.
+-- Rests on Written, and on rows' Blocks and Read.
 use mathlib.Core.Path.{_≡_, refl, sym, ap, _∙_}
 use mathlib.Core.Logic.{⊎-elim}
-use mathlib.Core.List.{List, [], _∷_, _++_, append-assoc}
+use mathlib.Core.List.{List, [], _∷_, _++_}
 use Prim.Native.Nat.{ℕ, zero, suc, _+_, _-_, _*_, _<_, _≤_}
 use native.Mathlib.Nat.{eq-zero-or-pos, mul-zero}
 use native.Mathlib.Omega.{arith}
-use lib.ListN.{length, getD, take, drop, set, length-append, List·getD-append}
-use lib.Seq.{sets, sets-eq, take-suc, take-all, take-at, getD-take, getD-append-add, length-take-le}
+use lib.ListN.{length, getD, take, set, length-append, List·getD-append}
+use lib.Seq.{take-suc, take-all, take-at, getD-take, getD-append-add, length-take-le}
 use Rattle.plans.specs.Blocks.{flat}
-use Rattle.tables.proofs.Blocks.{flat-length}
-use Rattle.tables.specs.Writing.{Put}
-use Rattle.tables.proofs.Written.{one, then, kept, flat-front}
-
--- What was written can be read.
-read : (l : List ℕ) (at : ℕ) (xs : List ℕ) (m : ℕ) → m < length xs → at + length xs ≤ length l → getD (sets l at xs) (at + m) 0 ≡ getD xs m 0
-read l at xs m h r =
-    let e = sets-eq xs l at r in
-    let n = length-take-le at l (omega arith) in
-    rw (e, append-assoc)
-    (ap (λ (i : ℕ). getD (take at l ++ (xs ++ drop (at + length xs) l)) (i + m) 0) (sym n)
-    ∙ getD-append-add (take at l) _ m 0
-    ∙ List·getD-append xs _ 0 m h)
+use Rattle.rows.proofs.Blocks.{flat-length, flat-front}
+use Rattle.rows.proofs.Read.{sets-in}
+use Rattle.tables.specs.Writing.{Wrote}
+use Rattle.tables.proofs.Written.{one, then, kept}
 
 module _ (ws : List ℕ) where
   abbrev pub copies : ℕ → List ℕ
@@ -52,20 +43,20 @@ module _ (ws : List ℕ) where
       (λ (l : 0 < length ws). l) (eq-zero-or-pos (length ws))
 
 -- A block of ws stands from `at` to `mid`, and the words up to i are copied.
-module _ (count : ℕ) {ws before between : List ℕ} {at mid : ℕ} (p : Put ws before between at mid) where
+module _ (count : ℕ) {ws before between : List ℕ} {at mid : ℕ} (p : Wrote ws before between at mid) where
   long : length (copies ws count) ≡ count * (mid - at)
   long = let e : length ws ≡ mid - at = omega (arith, p .ends) in copies-length ws count ∙ ap (λ (n : ℕ). count * n) e
 
-  pub start : 0 < count → Put (take (mid - at) (copies ws count)) before between at mid
+  pub start : 0 < count → Wrote (take (mid - at) (copies ws count)) before between at mid
   start h = rw (first count h) p
     where
       first : (c : ℕ) → 0 < c → take (mid - at) (copies ws c) ≡ ws
       first zero h = let no : ⊥ = omega arith in absurd no
       first (suc c) h = rw (flat-front (λ j. ws) c) (take-at ws (copies ws c) (mid - at) (omega (arith, p .ends)))
 
-  module _ {out : List ℕ} {i : ℕ} (q : Put (take (i - at) (copies ws count)) before out at i) (h : mid ≤ i) where
+  module _ {out : List ℕ} {i : ℕ} (q : Wrote (take (i - at) (copies ws count)) before out at i) (h : mid ≤ i) where
     pub again : i < at + count * (mid - at) → at + count * (mid - at) ≤ length between
-        → Put (take (i + 1 - at) (copies ws count)) before (set out i (getD out (i - (mid - at)) 0)) at (i + 1)
+        → Wrote (take (i + 1 - at) (copies ws count)) before (set out i (getD out (i - (mid - at)) 0)) at (i + 1)
     again l r =
         let n : ℕ = i - at in
         let e : i - (mid - at) ≡ at + (n - length ws) = omega (arith, p .ends) in
@@ -73,7 +64,7 @@ module _ (count : ℕ) {ws before between : List ℕ} {at mid : ℕ} (p : Put ws
         let m = length-take-le n (copies ws count) (omega (arith, long)) in
         let same : getD out (i - (mid - at)) 0 ≡ getD (copies ws count) n 0 =
         rw (e, q .written)
-        (read before at (take n (copies ws count)) (n - length ws) (omega (arith, p .ends)) (omega (arith, kept p, long))
+        (sets-in (take n (copies ws count)) before at (n - length ws) (omega (arith, p .ends)) (omega (arith, kept p, long))
         ∙ getD-take n (copies ws count) (n - length ws) 0 (omega (arith, p .ends))
         ∙ back ws count n (omega (arith, p .ends)) (omega (arith, long))) in
         let s : take (i + 1 - at) (copies ws count) ≡ take n (copies ws count) ++ (getD (copies ws count) n 0 ∷ []) =
@@ -81,5 +72,5 @@ module _ (count : ℕ) {ws before between : List ℕ} {at mid : ℕ} (p : Put ws
         rw k (take-suc (copies ws count) n 0 (omega (arith, long))) in
         rw (s, same) (then q (one out i (getD (copies ws count) n 0)))
 
-    pub finish : at + count * (mid - at) ≤ i → Put (copies ws count) before out at i
+    pub finish : at + count * (mid - at) ≤ i → Wrote (copies ws count) before out at i
     finish l = rw (take-all (i - at) (copies ws count) (omega (arith, long))) at q

@@ -3,7 +3,7 @@
 use mathlib.Core.Path.{_≡_, refl}
 use Prim.Native.Nat.{ℕ, zero, suc}
 use Rattle.plans.specs.declared.Counters.{Counters}
-use Rattle.tables.specs.Table.{turned}
+use Rattle.rows.specs.Table.{turned}
 
 pub turned-none : (kind j : ℕ) (k : Counters) → (kind ≡ 1 → ⊥) → (kind ≡ 2 → ⊥) → (kind ≡ 3 → ⊥) → turned kind j k ≡ k
 turned-none zero j k a b c = refl

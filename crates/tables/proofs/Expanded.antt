@@ -1,10 +1,10 @@
 -- Laws of what rows stand for: any depth that is enough gives the same, and a row is taken off in front of the rest.
--- Rests on Written (the first turn first).
-use mathlib.Core.Path.{_≡_, refl, sym, ap, subst, _∙_}
+-- Rests on rows' Memory.
+use mathlib.Core.Path.{_≡_, refl, ap, subst, _∙_}
 use mathlib.Core.Bool.{Bool, true, false, cond}
 use mathlib.Core.List.{List, [], _∷_, _++_, map}
 use Prim.Native.Nat.{ℕ, zero, suc, _+_, _-_, _≤_}
-use native.Mathlib.Nat.{add-zero, add-suc, suc-add, sub-zero, suc-sub-suc, not-suc-le-zero, le-of-suc-le-suc}
+use native.Mathlib.Nat.{not-suc-le-zero, le-of-suc-le-suc}
 use native.Mathlib.Numerals.{add-one}
 use native.Mathlib.Omega.{arith}
 use lib.Dec.{eqb}
@@ -13,9 +13,9 @@ use Rattle.plans.specs.declared.Counters.{Counters}
 use Rattle.plans.specs.Blocks.{flat}
 use Rattle.plans.specs.Outline.{inner, counted-to}
 use Rattle.plans.proofs.Blocks.{map-flat}
-use Rattle.tables.specs.declared.Row.{Row}
-use Rattle.tables.proofs.Written.{flat-front}
-use Rattle.tables.specs.Table.{wordOf, turned, expand, Inside, rowAt, rowsIn}
+use Rattle.rows.specs.declared.Row.{Row}
+use Rattle.rows.specs.Table.{wordOf, turned, expand, Inside, rowAt, rowsIn}
+use Rattle.rows.proofs.Memory.{rows-length, rows-take, rows-drop, rows-flat}
 use Rattle.tables.specs.Writing.{sizeOf, block, straight, running, looping, unrolled}
 
 -- ---- depths
@@ -63,41 +63,13 @@ same-inside (suc d) (suc e) (x ∷ xs) h i =
       | false ↦ (x .outer ≤ length xs) × same-inside d e (take (x .outer) xs) (l .0) (m .0) v × same-inside d e (drop (x .outer) xs) (l .1) (m .1) v
     ]
 
--- ---- rows in memory
+-- ---- rows that are all words
 
-module _ (t : List ℕ) where
-  pub rows-length : (first size : ℕ) → length (rowsIn t first size) ≡ size
-  unfolding rowsIn
-  rows-length first zero = refl
-  rows-length first (suc size) = ap suc (rows-length (suc first) size)
-
-  rows-take : (first size s : ℕ) → s ≤ size → take s (rowsIn t first size) ≡ rowsIn t first s
-  unfolding rowsIn
-  rows-take first size zero h = refl
-  rows-take first zero (suc s) h = absurd (not-suc-le-zero h)
-  rows-take first (suc size) (suc s) h = ap (λ (xs : List Row). rowAt t first ∷ xs) (rows-take (suc first) size s (le-of-suc-le-suc h))
-
-  rows-drop : (first size s : ℕ) → s ≤ size → drop s (rowsIn t first size) ≡ rowsIn t (first + s) (size - s)
-  unfolding rowsIn
-  rows-drop first size zero h = rw (add-zero, sub-zero)
-  rows-drop first zero (suc s) h = absurd (not-suc-le-zero h)
-  rows-drop first (suc size) (suc s) h =
-      rows-drop (suc first) size s (le-of-suc-le-suc h) ∙ rw (suc-sub-suc, add-suc, suc-add)
-
-  pub rows-flat : (first size : ℕ) → rowsIn t first size ≡ flat size (λ j. rowAt t (first + j) ∷ [])
-  unfolding rowsIn flat
-  rows-flat first zero = refl
-  rows-flat first (suc size) =
-      ap (λ (xs : List Row). rowAt t first ∷ xs)
-      (rows-flat (suc first) size
-      ∙ λ v. flat size (λ j. rowAt t ((suc-add first j ∙ sym (add-suc first j)) v) ∷ []))
-      ∙ ap (λ (a : ℕ). rowAt t a ∷ flat size (λ j. rowAt t (first + suc j) ∷ [])) (sym (add-zero first))
-      ∙ sym (flat-front (λ j. rowAt t (first + j) ∷ []) size)
-
-  pub rows-straight : (source first size : ℕ) (k : Counters) → map (λ y. wordOf source y k) (rowsIn t first size) ≡ straight t source first size k
-  unfolding straight
-  rows-straight source first size k =
-      ap (map (λ y. wordOf source y k)) (rows-flat first size) ∙ map-flat (λ y. wordOf source y k) size (λ j. rowAt t (first + j) ∷ [])
+pub rows-straight : (t : List ℕ) (source first size : ℕ) (k : Counters)
+    → map (λ y. wordOf source y k) (rowsIn t first size) ≡ straight t source first size k
+unfolding straight
+rows-straight t source first size k =
+    ap (map (λ y. wordOf source y k)) (rows-flat t first size) ∙ map-flat (λ y. wordOf source y k) size (λ j. rowAt t (first + j) ∷ [])
 
 -- ---- a row taken off
 

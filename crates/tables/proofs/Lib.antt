@@ -1,12 +1,8 @@
 pub mod Counted
-pub mod Summed
 pub mod Written
 pub mod Copied
 pub mod Expanded
 pub mod Passed
 pub mod Looped
-pub mod Blocks
-pub mod Emitted
 pub mod Tabled
-pub mod Coded
-pub mod Memory
+pub mod Columns

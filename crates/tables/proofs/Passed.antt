@@ -1,16 +1,16 @@
 -- The loop that writes rows one after another, each with its own: its invariant and its laws.
 -- Rests on Expanded and Written.
 use mathlib.Core.Path.{_≡_, sym, ap, _∙_}
-use mathlib.Core.List.{List, [], _++_, append-assoc, append-nil}
-use Prim.Native.Nat.{ℕ, suc, _+_, _-_, _*_, _^_, _<_, _≤_}
+use mathlib.Core.List.{List, [], _++_, map, append-assoc, append-nil}
+use Prim.Native.Nat.{ℕ, suc, _+_, _-_, _*_, _<_, _≤_}
 use native.Mathlib.Numerals.{add-one}
 use native.Mathlib.Omega.{arith}
 use lib.ListN.{length}
-use lib.Seq.{sets}
 use Rattle.plans.specs.declared.Counters.{Counters}
-use Rattle.machine.specs.Instruction.{All}
-use Rattle.tables.specs.Table.{Inside, rowAt, rowsIn, expand}
-use Rattle.tables.specs.Writing.{sizeOf, block, unrolled, Room, Ready, Put}
+use Rattle.plans.specs.Outline as Outline
+use Rattle.rows.specs.Table.{Inside, rowAt, rowsIn, expand}
+use Rattle.rows.specs.Code.{rowOfCode}
+use Rattle.tables.specs.Writing.{sizeOf, block, unrolled, Room, Ready, Wrote, linesWords, Writable}
 use Rattle.tables.proofs.Written.{nothing, then, ahead}
 use Rattle.tables.proofs.Expanded.{own-fits, own-inside, rest-inside, next-row}
 
@@ -19,7 +19,7 @@ pub record Passed (t : List ℕ) (source end : ℕ) (k : Counters) (whole before
   pub within : r ≤ end
   pub inside : Inside (end - r) (rowsIn t r (end - r))
   pub words : List ℕ
-  pub puts : Put words before now at place
+  pub puts : Wrote words before now at place
   pub is : words ++ block t source r (end - r) k ≡ whole
 
 pub start : (t : List ℕ) (source first size : ℕ) (k : Counters) (b : List ℕ) (at : ℕ) → Inside size (rowsIn t first size)
@@ -56,7 +56,7 @@ module _ {t : List ℕ} {source end : ℕ} {k : Counters} {whole before now : Li
         let a : r + (1 + own) ≡ suc r + sizeOf (rowAt t r) = omega (arith, e) in
         rw (m, left, a, e) (next-row t r n inside source k)
 
-    pub ready : 8 * end ≤ length t → Room whole before at → Ready t (r + 1) own (unrolled t source r own k) now place
+    pub ready : 6 * end ≤ length t → Room whole before at → Ready t (r + 1) own (unrolled t source r own k) now place
     ready l room =
         record {
           there = omega (arith, fits);
@@ -64,7 +64,7 @@ module _ {t : List ℕ} {source end : ℕ} {k : Counters} {whole before now : Li
           room = ahead (p .puts) _ _ whole (ap (λ (ws : List ℕ). p .words ++ ws) (sym split) ∙ p .is) room;
         }
 
-    pub next : {now′ : List ℕ} {place′ : ℕ} → Put (unrolled t source r own k) now now′ place place′
+    pub next : {now′ : List ℕ} {place′ : ℕ} → Wrote (unrolled t source r own k) now now′ place place′
         → Passed t source end k whole before now′ at place′ (r + (1 + own))
     next q =
         let a : r + (1 + own) ≡ suc r + sizeOf (rowAt t r) = omega (arith, e) in
@@ -79,7 +79,7 @@ module _ {t : List ℕ} {source end : ℕ} {k : Counters} {whole before now : Li
               ∙ p .is;
         }
 
-  pub done : end ≤ r → Put whole before now at place
+  pub done : end ≤ r → Wrote whole before now at place
   unfolding block expand rowsIn
   done h =
       let z : end - r ≡ 0 = omega (arith, h) in
@@ -87,19 +87,15 @@ module _ {t : List ℕ} {source end : ℕ} {k : Counters} {whole before now : Li
       let e : p .words ≡ whole = sym (append-nil (p .words)) ∙ ap (λ (ws : List ℕ). p .words ++ ws) (sym none) ∙ p .is in
       rw e at (p .puts)
 
--- ---- the whole table, as the contract says it
+-- ---- the rows of a plan's lines
 
-module _ (t : List ℕ) (source rows : ℕ) (k : Counters) where
-  pub entire-ready : {out : List ℕ} {at : ℕ}
-      → (8 * rows ≤ length t)
-      × Inside rows (rowsIn t 0 rows)
-      × All (λ w. w < 2 ^ 64) (expand source rows (rowsIn t 0 rows) k)
-      × (at + length (expand source rows (rowsIn t 0 rows) k) ≤ length out)
-      → Ready t 0 rows (block t source 0 rows k) out at
-  unfolding block
-  entire-ready h = record { there = omega arith; inside = h .1; room = record { small = h .2; fits = h .3 } }
+module _ (t lines : List ℕ) (n : ℕ) (env : List ℕ) (is : rowsIn t 0 (length lines) ≡ map (rowOfCode n env) lines) (source : ℕ) where
+  pub lines-ready : {out : List ℕ} {at : ℕ} → 6 * length lines ≤ length t → Writable n env lines source out at
+      → Ready t 0 (length lines) (block t source 0 (length lines) Outline.start) out at
+  unfolding block linesWords
+  lines-ready room w = record { there = omega arith; inside = rw is (w .inside); room = rw is (w .room) }
 
-  pub entire-put : {out out′ : List ℕ} {at next : ℕ} → Put (block t source 0 rows k) out out′ at next
-      → (next ≡ at + length (expand source rows (rowsIn t 0 rows) k)) × (out′ ≡ sets out at (expand source rows (rowsIn t 0 rows) k))
-  unfolding block
-  entire-put p = (p .ends, p .written)
+  pub lines-put : {out after : List ℕ} {at next : ℕ} → Wrote (block t source 0 (length lines) Outline.start) out after at next
+      → Wrote (linesWords n env lines source) out after at next
+  unfolding block linesWords
+  lines-put p = rw is at p

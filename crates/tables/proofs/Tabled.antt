@@ -1,30 +1,44 @@
--- The rows of an outline in memory stand for its words. Rests on Emitted.
-use mathlib.Core.Path.{_≡_}
+-- A plan's lines that have the rows of an outline stand for its words, whatever its regions. Rests on rows' Emitted.
+use mathlib.Core.Path.{_≡_, ap}
 use mathlib.Core.List.{List, map}
-use Prim.Native.Nat.{ℕ, _+_, _-_, _*_, _^_, _≤_}
+use Prim.Native.Nat.{ℕ, _^_, _<_, _≤_}
+use native.Mathlib.Omega.{arith}
 use lib.IntN.{pos}
-use lib.ListN.{length, getD}
+use lib.ListN.{length, length-map}
+use Rattle.machine.specs.Instruction.{All}
 use Rattle.machine.specs.Word.{encode}
+use Rattle.plans.specs.Regions.{address}
 use Rattle.plans.specs.Outline.{Outline, start, instructions}
-use Rattle.tables.specs.Table.{rowsIn, Emits}
-use Rattle.tables.specs.Rows.{rowsOf}
-use Rattle.tables.proofs.Emitted.{inside, emits}
+use Rattle.rows.specs.Rows.{envOf, rowsOf}
+use Rattle.rows.specs.Code.{rowOfCode}
+use Rattle.rows.proofs.Emitted.{inside, emits}
+use Rattle.tables.specs.Writing.{Room, Wrote, linesWords, Writable}
 
--- What a table is made for: 0, n, m, n - 1 and where the regions begin.
-pub record Made (n m : ℕ) (env : List ℕ) (name : (region place : ℕ) → ℕ) : Type 0 where
-  pub none : getD env 0 0 ≡ 0
-  pub vertices : getD env 1 0 ≡ n
-  pub edges : getD env 2 0 ≡ m
-  pub others : getD env 3 0 ≡ n - 1
-  pub named : (r p : ℕ) → name r p ≡ getD env (4 + r) 0 + p
+-- The lines have the rows of the outline.
+abbrev pub SameRows : (n : ℕ) (env lines : List ℕ) → Outline → Type 0
+SameRows n env lines o = map (rowOfCode n env) lines ≡ rowsOf n env o
 
-pub tabled : {n m : ℕ} {env : List ℕ} {name : (region place : ℕ) → ℕ} → Made n m env name
-    → (o : Outline) (memory : List ℕ) (rows : ℕ) → rowsIn memory 0 rows ≡ rowsOf n env o → length (rowsOf n env o) ≤ rows
-    → 8 * rows ≤ length memory
-    → (source : ℕ) → Emits memory rows source (map encode (instructions name (pos (2 ^ 38)) n m source o start))
-tabled {n} {m} {env} {name} a o memory rows is few room source =
-    record {
-      room = room;
-      inside = rw is (inside n env o rows few);
-      stands = rw is (emits n m source env name (a .named) (a .none) (a .vertices) (a .edges) (a .others) o start rows few);
-    }
+module _ (n m source : ℕ) (starts lines : List ℕ) (o : Outline) (rows : SameRows n (envOf n m starts) lines o) where
+  abbrev plan : List ℕ
+  plan = map encode (instructions (address starts) (pos (2 ^ 38)) n m source o start)
+
+  few : length (rowsOf n (envOf n m starts) o) ≤ length lines
+  few = omega (arith, ap length rows, length-map lines (rowOfCode n (envOf n m starts)))
+
+  words : linesWords n (envOf n m starts) lines source ≡ plan
+  unfolding linesWords
+  words = rw rows (emits n m source starts o start (length lines) few)
+
+  pub may-write : {out : List ℕ} {at : ℕ} → n < 2 ^ 19 → All (λ x. x < 2 ^ 19) (envOf n m starts) → Room plan out at
+      → Writable n (envOf n m starts) lines source out at
+  may-write narrow near room =
+      record {
+        narrow = narrow;
+        near = near;
+        inside = rw rows (inside n (envOf n m starts) o (length lines) few);
+        room = rw words room;
+      }
+
+  pub was-written : {out after : List ℕ} {at next : ℕ} → Wrote (linesWords n (envOf n m starts) lines source) out after at next
+      → Wrote plan out after at next
+  was-written p = rw words at p

@@ -1,5 +1,5 @@
 -- Laws of words written to a buffer: none, one, one list after another, and turn by turn in a loop.
--- Rests on Writing's Room and Put, and on fields' Sets.
+-- Rests on Writing's Room and Wrote, and on fields' Sets.
 use mathlib.Core.Path.{_≡_, refl, sym, ap, subst, _∙_}
 use mathlib.Core.Logic.{⊎-elim}
 use mathlib.Core.List.{List, [], _∷_, _++_, append-assoc, append-nil}
@@ -12,21 +12,21 @@ use lib.Seq.{sets, length-sets}
 use Rattle.machine.specs.Instruction.{All}
 use Rattle.fields.proofs.Sets.{sets-append}
 use Rattle.plans.specs.Blocks.{flat}
-use Rattle.tables.specs.Writing.{Room, Put}
+use Rattle.tables.specs.Writing.{Room, Wrote}
 
 -- ---- one list after another
 
-pub nothing : (b : List ℕ) (at : ℕ) → Put [] b b at at
+pub nothing : (b : List ℕ) (at : ℕ) → Wrote [] b b at at
 nothing b at = record { written = refl; ends = sym (add-zero at) }
 
-pub one : (b : List ℕ) (at w : ℕ) → Put (w ∷ []) b (set b at w) at (at + 1)
+pub one : (b : List ℕ) (at w : ℕ) → Wrote (w ∷ []) b (set b at w) at (at + 1)
 one b at w = record { written = refl; ends = refl }
 
-module _ {xs b₀ b₁ : List ℕ} {at mid : ℕ} (p : Put xs b₀ b₁ at mid) where
+module _ {xs b₀ b₁ : List ℕ} {at mid : ℕ} (p : Wrote xs b₀ b₁ at mid) where
   pub kept : length b₁ ≡ length b₀
   kept = ap length (p .written) ∙ length-sets b₀ at xs
 
-  pub then : {ys b₂ : List ℕ} {end : ℕ} → Put ys b₁ b₂ mid end → Put (xs ++ ys) b₀ b₂ at end
+  pub then : {ys b₂ : List ℕ} {end : ℕ} → Wrote ys b₁ b₂ mid end → Wrote (xs ++ ys) b₀ b₂ at end
   then {ys} {b₂} {end} q =
       record {
         written =
@@ -66,25 +66,18 @@ parted f (suc count) j h =
     (q .0 ++ f count, rw (← append-assoc, ← append-assoc, append-assoc (flat j f) (f j) (q .0), q .1)))
     (eq-or-lt-of-le (le-of-suc-le-suc h))
 
-pub begin : (f : ℕ → List ℕ) (b : List ℕ) (at : ℕ) → Put (flat 0 f) b b at at
+pub begin : (f : ℕ → List ℕ) (b : List ℕ) (at : ℕ) → Wrote (flat 0 f) b b at at
 unfolding flat
 begin f b at = nothing b at
 
--- The first turn first.
-pub flat-front : {X : Type 0} (f : ℕ → List X) (count : ℕ) → flat (suc count) f ≡ f 0 ++ flat count (λ j. f (suc j))
-unfolding flat
-flat-front f zero = sym (append-nil (f 0))
-flat-front f (suc count) =
-    ap (λ l. l ++ f (suc count)) (flat-front f count) ∙ append-assoc (f 0) (flat count (λ j. f (suc j))) (f (suc count))
-
-module _ (f : ℕ → List ℕ) {b₀ b : List ℕ} {at next : ℕ} (j : ℕ) (p : Put (flat j f) b₀ b at next) where
+module _ (f : ℕ → List ℕ) {b₀ b : List ℕ} {at next : ℕ} (j : ℕ) (p : Wrote (flat j f) b₀ b at next) where
   -- A turn has room.
   pub turn : (count : ℕ) → j < count → Room (flat count f) b₀ at → Room (f j) b next
   turn count h r = let q = parted f count j h in ahead p (f j) (q .0) (flat count f) (q .1) r
 
-  pub again : {b′ : List ℕ} {next′ : ℕ} → Put (f j) b b′ next next′ → Put (flat (j + 1) f) b₀ b′ at next′
+  pub again : {b′ : List ℕ} {next′ : ℕ} → Wrote (f j) b b′ next next′ → Wrote (flat (j + 1) f) b₀ b′ at next′
   unfolding flat
   again q = rw add-one (then p q)
 
-  pub finish : (count : ℕ) → j ≤ count → count ≤ j → Put (flat count f) b₀ b at next
-  finish count h l = subst (λ (i : ℕ). Put (flat i f) b₀ b at next) (le-antisymm h l) p
+  pub finish : (count : ℕ) → j ≤ count → count ≤ j → Wrote (flat count f) b₀ b at next
+  finish count h l = subst (λ (i : ℕ). Wrote (flat i f) b₀ b at next) (le-antisymm h l) p

@@ -1,4 +1,1 @@
-pub mod Table
 pub mod Writing
-pub mod Rows
-pub mod Code

@@ -8,15 +8,15 @@ use plan::{emit, lay, split, Machine, Public};
 const PLACES: usize = 1 << 24;
 const MOST: i64 = 1_000_000;
 
-/// The number, the place and the three values of an answer.
+/// The number, the place and the values of an answer, 0 where it has fewer than four.
 #[derive(Clone, Copy, Debug, PartialEq, Eq)]
 pub struct Outcome {
     pub number: u64,
     pub place: Option<u64>,
-    pub values: [u64; 3],
+    pub values: [u64; 4],
 }
 
-fn ran(number: u64, values: [u64; 3]) -> Outcome {
+fn ran(number: u64, values: [u64; 4]) -> Outcome {
     Outcome {
         number,
         place: None,
@@ -28,7 +28,7 @@ fn refused(number: u64, place: Option<usize>) -> Outcome {
     Outcome {
         number,
         place: place.map(|place| place as u64),
-        values: [0; 3],
+        values: [0; 4],
     }
 }
 
@@ -132,7 +132,7 @@ pub fn run(request: &[u64], lent: &mut Buffers) -> Outcome {
         1 => lent.log[logged - 1],
         _ => 0,
     };
-    let values = [rounds, logged as u64, verdict];
+    let values = [rounds, logged as u64, verdict, 0];
     if verdict != 0 {
         return ran(12, values);
     }
@@ -176,10 +176,10 @@ pub fn run_plan(plan: &[u64], cells: &mut [i64], log: &mut [u64]) -> Outcome {
         return refused(7, None);
     }
     if plan.is_empty() {
-        return ran(0, [0; 3]);
+        return ran(0, [0; 4]);
     }
     let (rounds, logged) = interpret(plan, cells, log);
-    ran(0, [rounds, logged as u64, 0])
+    ran(0, [rounds, logged as u64, 0, 0])
 }
 
 /// Writes the plan of the first word given.
@@ -192,15 +192,15 @@ pub fn write_plan(header: &[u64], buffer: &mut [u64]) -> Outcome {
         return refused(7, None);
     }
     buffer[..plan.len()].copy_from_slice(&plan);
-    ran(0, [plan.len() as u64, 0, 0])
+    ran(0, [plan.len() as u64, 0, 0, 0])
 }
 
-/// The lengths that the first word given asks for: cells, log, results.
+/// The lengths that the first word given asks for: cells, log, distances, parents.
 pub fn sizes(header: &[u64]) -> Outcome {
     if let Some(number) = header_fault(header) {
         return refused(number, None);
     }
     let public = Public::read(header[0]);
     let log = log_length(&plan_words(header[0]));
-    ran(0, [public.cells() as u64, log as u64, public.n])
+    ran(0, [public.cells() as u64, log as u64, public.n, public.n])
 }

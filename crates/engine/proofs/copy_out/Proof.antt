@@ -1,4 +1,4 @@
--- `engine::copy_out` meets its contract: before place v, what is left of the copies is still to write. Rests on the requests' Copied.
+-- `engine::copy_out` meets its contract: before place i, what is left of the copies is still to write. Rests on the requests' Copied.
 use borrow.Author.Needs.{needs}
 use mathlib.Core.Path.{refl}
 use Prim.Native.Nat.{_+_, _-_}
@@ -10,10 +10,10 @@ use Rattle.engine.proofs.copy_out.Statement.{statement}
 use Rattle.engine.proofs.copy_out.Tie as tie
 
 abbrev Inv-loop : tie.InvT-loop
-Inv-loop cells from count out₀ v₀ out v = Filling (ones count (λ v. cellAt cells (from + v))) out₀ out v
+Inv-loop cells out₀ first count i₀ out i = Filling (ones count (λ i. cellAt cells (first + i))) out₀ out i
 
 abbrev μ-loop : tie.MeasureT-loop
-μ-loop cells from count out₀ v₀ out v = count - v
+μ-loop cells out₀ first count i₀ out i = count - i
 
 loop-holds : tie.Need-loop-holds Inv-loop μ-loop
 loop-holds c = start _ _
@@ -33,8 +33,8 @@ mul-value-2 c = omega arith
 slice-set-from-value : tie.Need-slice-set-from-value Inv-loop μ-loop
 slice-set-from-value c = omega (arith, c .before .before .before .pre .1, c .before .before .loop .inv .long)
 
-add-v : tie.Need-add-v Inv-loop μ-loop
-add-v c = omega arith
+add-i : tie.Need-add-i Inv-loop μ-loop
+add-i c = omega arith
 
 loop-less : tie.Need-loop-less Inv-loop μ-loop
 loop-less c = omega arith
@@ -58,7 +58,7 @@ copy-out-spec =
     shared-slice-copy-out-value
     mul-value-2
     slice-set-from-value
-    add-v
+    add-i
     loop-less
     loop-again
     (λ c. search needs)

@@ -3,15 +3,6 @@ use borrow.Author.Needs.{needs}
 use Rattle.exports.proofs.plan_numbers.Statement.{statement}
 use Rattle.exports.proofs.plan_numbers.Tie as tie
 
-enum-known-answer : tie.Need-enum-known-answer
-enum-known-answer c = search needs
-
-enum-known-answer-2 : tie.Need-enum-known-answer-2
-enum-known-answer-2 c = search needs
-
-refusal-numbers-requires : tie.Need-refusal-numbers-requires
-refusal-numbers-requires c κs = search needs
-
 returns : tie.Need-returns
 returns c = rw (c .before .answer .given .1)
 
@@ -21,4 +12,4 @@ returns-2 c = rw (c .before .before .answer2 .given .1) (c .refusal-numbers .ens
 pub plan-numbers-spec : {M : Type 1} → statement M
 plan-numbers-spec =
     tie.close
-    (tie.spec enum-known-answer enum-known-answer-2 refusal-numbers-requires returns returns-2)
+    (tie.spec (λ c. search needs) (λ c. search needs) (λ c κs. search needs) returns returns-2)

@@ -5,15 +5,6 @@ use borrow.Author.Needs.{needs}
 use Rattle.exports.proofs.vukstaja_write_plan.Statement.{statement}
 use Rattle.exports.proofs.vukstaja_write_plan.Tie as tie
 
-write-plan-requires : tie.Need-write-plan-requires
-write-plan-requires c κs = search needs
-
-written-numbers-requires : tie.Need-written-numbers-requires
-written-numbers-requires c κs = search needs
-
-same-length : tie.Need-same-length
-same-length c = search needs
-
 returns : tie.Need-returns
 returns c =
     let m = c .before .before .before .write-plan .ensures in
@@ -21,4 +12,4 @@ returns c =
 
 pub vukstaja-write-plan-spec : {M : Type 1} → statement M
 vukstaja-write-plan-spec =
-    tie.close (tie.spec write-plan-requires written-numbers-requires same-length returns)
+    tie.close (tie.spec (λ c κs. search needs) (λ c κs. search needs) (λ c. search needs) returns)

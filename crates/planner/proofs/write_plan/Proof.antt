@@ -22,26 +22,27 @@ fine c = rw (c .enum-told .given .1) at (c .before .before .check-header .ensure
 
 returns-3 : tie.Need-returns-3
 returns-3 c =
-    let t = c .before .before in
+    let g = c .before .before in
+    let t = g .before in
     let h = t .before .before .before in
     too-short _ _ (h .before .before .if1 .left) _ (h .read-header .ensures) (fine t)
-    (omega (arith, c .before .plan-length .ensures, length-plan _ (accepted _ (fine t))))
+    (omega (arith, g .figures-of .ensures .length-is, length-plan _ (accepted _ (fine t))))
 
 fill-requires : tie.Need-fill-requires
 fill-requires c κs =
-    let p = c .before .before in
-    (accepted _ (fine (p .before)), omega (arith, p .plan-length .ensures, c .before .if2 .left))
+    let g = c .before .before .before in
+    (accepted _ (fine (g .before)), omega (arith, g .figures-of .ensures .length-is, c .before .if2 .left))
 
 returns-4 : tie.Need-returns-4
 returns-4 c =
     let f = c .before .before in
-    let p = f .before .before .before in
-    let t = p .before in
+    let g = f .before .before .before .before in
+    let t = g .before in
     let h = t .before .before .before in
     let e = length-plan _ (accepted _ (fine t)) in
     all-written _ _ (h .before .before .if1 .left) _ (h .read-header .ensures) (fine t) _ _
     (f .fill .ensures .0 ∙ sym e)
-    (omega (arith, e, p .plan-length .ensures, f .before .before .if2 .left))
+    (omega (arith, e, g .figures-of .ensures .length-is, f .before .before .if2 .left))
     (f .fill .ensures .1)
 
 pub write-plan-spec : {M : Type 1} → statement M

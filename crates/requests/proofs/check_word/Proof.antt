@@ -4,20 +4,8 @@ use Rattle.requests.proofs.Words.{shape-bad, weight-bad, word-good}
 use Rattle.requests.proofs.check_word.Statement.{statement}
 use Rattle.requests.proofs.check_word.Tie as tie
 
-good-shape-requires : tie.Need-good-shape-requires
-good-shape-requires c κs = search needs
-
-at-requires : tie.Need-at-requires
-at-requires c κs = search needs
-
 returns : tie.Need-returns
 returns c = search shape-bad
-
-good-weight-requires : tie.Need-good-weight-requires
-good-weight-requires c κs = search needs
-
-at-requires-2 : tie.Need-at-requires-2
-at-requires-2 c κs = search needs
 
 returns-2 : tie.Need-returns-2
 returns-2 c = search weight-bad
@@ -27,4 +15,4 @@ returns-3 c = search word-good
 
 pub check-word-spec : {M : Type 1} → statement M
 check-word-spec =
-    tie.close (tie.spec good-shape-requires at-requires returns good-weight-requires at-requires-2 returns-2 returns-3)
+    tie.close (tie.spec (λ c κs. search needs) (λ c κs. search needs) returns (λ c κs. search needs) (λ c κs. search needs) returns-2 returns-3)

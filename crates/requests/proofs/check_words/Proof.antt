@@ -19,23 +19,8 @@ loop-holds c = search start
 sub-check-word : tie.Need-sub-check-word Inv-loop μ-loop
 sub-check-word c = omega arith
 
-mul-check-word : tie.Need-mul-check-word Inv-loop μ-loop
-mul-check-word c = search needs
-
-shared-slice-read-check-word : tie.Need-shared-slice-read-check-word Inv-loop μ-loop
-shared-slice-read-check-word c = search needs
-
-check-word-requires : tie.Need-check-word-requires Inv-loop μ-loop
-check-word-requires c κs = search needs
-
-enum-known-refusal : tie.Need-enum-known-refusal Inv-loop μ-loop
-enum-known-refusal c = search needs
-
 returns : tie.Need-returns Inv-loop μ-loop
 returns c = search refused
-
-enum-told : tie.Need-enum-told Inv-loop μ-loop
-enum-told c = search needs
 
 add-k : tie.Need-add-k Inv-loop μ-loop
 add-k c = omega arith
@@ -57,12 +42,12 @@ check-words-spec =
     μ-loop
     loop-holds
     sub-check-word
-    mul-check-word
-    shared-slice-read-check-word
-    check-word-requires
-    enum-known-refusal
+    (λ c. search needs)
+    (λ c. search needs)
+    (λ c κs. search needs)
+    (λ c. search needs)
     returns
-    enum-told
+    (λ c. search needs)
     add-k
     loop-less
     loop-again

@@ -6,15 +6,9 @@ use Rattle.requests.specs.Word.{weightOf}
 use Rattle.requests.proofs.weight.Statement.{statement}
 use Rattle.requests.proofs.weight.Tie as tie
 
-field-requires : tie.Need-field-requires
-field-requires c κs = search needs
-
-signed-requires : tie.Need-signed-requires
-signed-requires c κs = search needs
-
 returns : tie.Need-returns
 unfolding weightOf
 returns c = kept _ (c .signed .ok) ∙ c .signed .ensures ∙ rw (c .before .field .ensures .0)
 
 pub weight-spec : {M : Type 1} → statement M
-weight-spec = tie.close (tie.spec field-requires signed-requires returns)
+weight-spec = tie.close (tie.spec (λ c κs. search needs) (λ c κs. search needs) returns)

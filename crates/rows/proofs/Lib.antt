@@ -1,0 +1,5 @@
+pub mod Blocks
+pub mod Emitted
+pub mod Coded
+pub mod Memory
+pub mod Read
