@@ -155,9 +155,11 @@ impl Refusal {
             7 => "the log or plan buffer is too short",
             8 => "the distances or parents buffer is shorter than the number of vertices",
             9 => "the plan has a word that cannot be carried out",
-            10 => "an edge names a vertex that is not there, or its spare bits are not zero",
+            10 => "the spare bits of a word are not zero",
             11 => "a weight is outside its range",
             12 => "the source reaches a cycle of negative weight",
+            13 => "an edge leads from a vertex that is not there",
+            14 => "an edge leads to a vertex that is not there",
             _ => "the refusal has no known number",
         }
     }

@@ -1,13 +1,13 @@
-//! Compares the library with an independent implementation of document 01.
+//! Compares the library with an independent implementation of the rules.
 
 mod generator;
 mod reference;
 
 use std::collections::HashSet;
 
-use generator::{buffers, damage, edge_word, request, small_request, Random};
+use generator::{buffers, damage, edge_word, faults, request, small_request, Random};
 use reference::graph::Graph;
-use reference::plan::{pack, FAR};
+use reference::plan::{pack, Public, FAR};
 use reference::{Buffers, Outcome};
 use vukstaja::{Answer, Header, Method, Refusal, Routes};
 
@@ -107,7 +107,7 @@ fn walk_back(graph: &Graph, left: &Buffers, vertex: usize, dense: bool) -> Optio
 #[test]
 fn small_requests() {
     let mut random = Random::new(SEED);
-    let mut seen = [0; 13];
+    let mut seen = [0; 15];
     for _ in 0..100_000 {
         let mut request = small_request(&mut random);
         let mut lent = buffers(&mut random, request[0]);
@@ -118,8 +118,42 @@ fn small_requests() {
         seen[outcome.number as usize] += 1;
     }
     println!("100000 requests, by number: {seen:?}");
-    for number in (0..13).filter(|&number| number != 9) {
+    for number in (0..15).filter(|&number| number != 9) {
         assert!(seen[number] > 100, "number {number} is rare: {seen:?}");
+    }
+}
+
+/// Of the first word that has faults the first one is told, whatever the word after it is.
+#[test]
+fn words_with_every_combination_of_faults() {
+    let mut random = Random::new(SEED + 9);
+    let mut compared = 0;
+    for (method, n) in [(1, 1), (1, 2), (1, 31), (1, 32), (2, 1), (2, 2), (2, 3)] {
+        let valid = request(&mut random, method, n, 3);
+        let combinations = faults::combinations(method);
+        for at in 1..valid.len() {
+            for chosen in &combinations {
+                for later in &combinations {
+                    compare_faults(&mut random, &valid, at, chosen, later);
+                    compared += 1;
+                }
+            }
+        }
+    }
+    println!("{compared} requests with chosen faults");
+}
+
+fn compare_faults(random: &mut Random, valid: &[u64], at: usize, chosen: &[u64], later: &[u64]) {
+    let public = Public::read(valid[0]);
+    let mut request = valid.to_vec();
+    for (word, faults) in request[at..].iter_mut().zip([chosen, later]) {
+        *word = faults::word(random, &public, faults);
+    }
+    let lent = buffers(random, request[0]);
+    let (outcome, _) = compare(&request, lent);
+    if let Some(&number) = chosen.first() {
+        let place = Some(at as u64 - 1);
+        assert_eq!((outcome.number, outcome.place), (number, place));
     }
 }
 
@@ -210,11 +244,11 @@ fn compare_routes(routes: &Routes, expected: &Outcome, left: &Buffers) {
 #[test]
 fn refusals_have_sentences_of_their_own() {
     let place = None;
-    let texts = (1..=12).map(|number| Refusal { number, place }.to_string());
+    let texts = (1..=14).map(|number| Refusal { number, place }.to_string());
     let sentences: HashSet<String> = texts
         .map(|text| text.split_once(": ").expect("a number first").1.to_string())
         .collect();
-    assert_eq!(sentences.len(), 12);
+    assert_eq!(sentences.len(), 14);
     let placed = Refusal {
         number: 11,
         place: Some(0),

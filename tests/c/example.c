@@ -98,11 +98,15 @@ static void run_written_plan(void)
 
 static void be_refused(void)
 {
-    const uint64_t request[] = {0x1000010000100000, 0x00000000000F4241}, unknown[] = {0x3000010000000000};
+    uint64_t request[] = {0x1000010000100000, 0x00000000000F4241};
+    const uint64_t unknown[] = {0x3000010000000000};
     struct buffers lent = made_for(request[0]);
     vukstaja_answer answer;
     run(request, 2, &lent, &answer);
     print_answer("a weight of 1,000,001", answer);
+    request[1] = 0x0001000000000000;
+    run(request, 2, &lent, &answer);
+    print_answer("an edge to vertex 1 of 1", answer);
     lent.log_length -= 1;
     run(request, 2, &lent, &answer);
     print_answer("a log one word short", answer);

@@ -1,4 +1,4 @@
-"""A model of document 01: requests, cell plans and host logs.
+"""A model of the rules: requests, cell plans and host logs.
 
 A word is a whole number from 0 to 2^64 - 1, a cell is a signed whole number
 from -2^63 to 2^63 - 1.  Request words are a list whose first word is the
@@ -408,17 +408,21 @@ def buffer_refusal(header, word_count, lent):
 
 
 def lane_refusal(header, place, word):
-    """Refusal 10 or 11 of one lane word, or None."""
+    """The first of refusals 10, 13, 14 and 11 of one lane word, or None."""
     lane = split_lane(word)
-    if max(lane.origin, lane.target) >= header.yards or lane.spare != 0:
+    if lane.spare != 0:
         return Refusal(10, place)
+    if lane.origin >= header.yards:
+        return Refusal(13, place)
+    if lane.target >= header.yards:
+        return Refusal(14, place)
     if not -HIGHEST_PRICE <= lane.price <= HIGHEST_PRICE:
         return Refusal(11, place)
     return None
 
 
 def table_refusal(place, word):
-    """Refusal 10 or 11 of one table word, or None."""
+    """The first of refusals 10 and 11 of one table word, or None."""
     entry = split_table_entry(word)
     if entry.spare != 0:
         return Refusal(10, place)

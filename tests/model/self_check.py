@@ -1,4 +1,4 @@
-"""Holds the model against document 01 and against the second computation."""
+"""Holds the model against the rules and against the second computation."""
 
 import random
 
@@ -241,24 +241,24 @@ def climb(checks, headers, inputs, enough, late_refusals):
 
 
 def check_order_method_1(checks):
-    """Refusals 1 to 11 of method 1."""
+    """The refusals of method 1 before a run, in their order."""
     headers = [Header(3, 33, 129, 33), Header(1, 33, 129, 33),
                Header(1, 2, 129, 2), Header(1, 2, 2, 2), Header(1, 2, 2, 1)]
     dear, right = Lane(0, 1, 0, 1_000_001), Lane(0, 1, 0, 1_000_000)
-    lanes = [[dear], [dear, Lane(2, 0, 0, -1_000_001)],
-             [right, Lane(2, 0, 0, -1_000_001)],
+    lanes = [[dear], [dear, Lane(2, 2, 1, -1_000_001)],
+             [right, Lane(2, 2, 1, -1_000_001)],
+             [right, Lane(2, 2, 0, -1_000_001)],
              [right, Lane(0, 2, 0, -1_000_001)],
-             [right, Lane(0, 1, 1, -1_000_001)],
              [right, Lane(0, 1, 0, -1_000_001)],
              [right, Lane(0, 1, 0, -1_000_000)]]
     inputs = [[model.join_lane(lane) for lane in row] for row in lanes]
     climb(checks, headers, inputs, Lent(20, 85, 2, 2),
-          [Refusal(11, 0), Refusal(10, 1), Refusal(10, 1), Refusal(10, 1),
+          [Refusal(11, 0), Refusal(10, 1), Refusal(13, 1), Refusal(14, 1),
            Refusal(11, 1)])
 
 
 def check_order_method_2(checks):
-    """Refusals 1 to 11 of method 2."""
+    """The refusals of method 2 before a run, in their order."""
     headers = [Header(0, 0, 1, 0), Header(2, 0, 1, 0), Header(2, 2, 1, 2),
                Header(2, 2, 0, 2), Header(2, 2, 0, 1)]
     tables = [[(0, 5)], [(0, -2), (0, 5), (1, -2), (0, -1)],
@@ -280,7 +280,9 @@ def check_desk(checks):
         "10002100002000": "refused 1", "1000210000200000" + "00": "refused 2",
         "1000200000100000" + "0000000000000000": "refused 7",
         "1000010000100000" + "00000000000F4241": "refused 11 0",
-        "1000010000100000" + "00010000000F4241": "refused 10 0",
+        "1000010000100000" + "01010001000F4241": "refused 10 0",
+        "1000010000100000" + "01010000000F4241": "refused 13 0",
+        "1000010000100000" + "00010000000F4241": "refused 14 0",
         "1000010000100000" + "00000000FFFFFFFF": "refused 12",
     }
     for request, line in printed.items():

@@ -1,4 +1,5 @@
 pub mod Facts
 pub mod Unmet
-pub mod Apart
+pub mod Meets
+pub mod Told
 pub mod Filled

@@ -1,6 +1,7 @@
--- Refusals (document 01, "Who caused it") by name, each with its number and place, and the first of several that is met.
+-- Refusals (document 01, "Who caused it", with ask 1 of document 02) by name, each with its number and place, and the first of several that is met.
 -- Rests on nothing.
 use mathlib.Core.Bool.{Bool, true, false, cond}
+use mathlib.Core.List.{List, [], _∷_}
 use mathlib.Core.Option.{Option, none, some}
 use Prim.Native.Nat.{ℕ}
 use Rattle.answers.specs.declared.Refusal.{Refusal}
@@ -45,11 +46,17 @@ Results = plain 8
 abbrev pub Operation : (place : ℕ) → Refusal
 Operation place = placed 9 place
 
-abbrev pub Edge : (place : ℕ) → Refusal
-Edge place = placed 10 place
+abbrev pub SpareBits : (place : ℕ) → Refusal
+SpareBits place = placed 10 place
 
 abbrev pub Weight : (place : ℕ) → Refusal
 Weight place = placed 11 place
+
+abbrev pub FromVertex : (place : ℕ) → Refusal
+FromVertex place = placed 13 place
+
+abbrev pub ToVertex : (place : ℕ) → Refusal
+ToVertex place = placed 14 place
 
 abbrev pub placeOf : Refusal → Option ℕ
 placeOf r = cond (r .placed) (some (r .place)) none
@@ -70,6 +77,11 @@ found (Refused r) = some r
 abbrev pub need : Bool → Refusal → Option Refusal → Option Refusal
 need true r later = later
 need false r later = some r
+
+-- The first refusal of tests in their order, each with its own where it fails.
+abbrev pub firstOf : List (Bool × Refusal) → Option Refusal
+firstOf [] = none
+firstOf (t ∷ ts) = need (t .0) (t .1) (firstOf ts)
 
 -- The first refusal of two checks.
 abbrev pub orElse : Option Refusal → Option Refusal → Option Refusal

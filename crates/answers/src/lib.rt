@@ -74,9 +74,13 @@ pub const RESULTS: Refusal = Refusal {
 // The numbers of those with a place.
 pub const OPERATION: u64 = 9;
 
-pub const EDGE: u64 = 10;
+pub const SPARE_BITS: u64 = 10;
 
 pub const WEIGHT: u64 = 11;
+
+pub const FROM_VERTEX: u64 = 13;
+
+pub const TO_VERTEX: u64 = 14;
 
 impl Refusal {
     // A refusal at a place.

@@ -64,7 +64,7 @@ fn refused_counts() {
     send(b"3 yards and 103 lanes, too long a log", &long, 832);
 }
 
-fn refused_words() {
+fn refused_lanes() {
     send(
         b"from a yard not there",
         &[0x1000020000100000, 0x0201000000000005],
@@ -72,14 +72,32 @@ fn refused_words() {
     );
     send(
         b"to a yard not there",
-        &[0x1000020000200000, 0, 0x0002000000000005],
-        24,
+        &[0x1000020000100000, 0x0002000000000005],
+        16,
     );
     send(
         b"a spare bit",
         &[0x1000020000100000, 0x0001000100000005],
         16,
     );
+    send(
+        b"from and to yards not there",
+        &[0x1000020000200000, 0, 0x0202000000000005],
+        24,
+    );
+    send(
+        b"a spare bit before the yards",
+        &[0x1000020000100000, 0x0202000100000005],
+        16,
+    );
+    send(
+        b"a yard not there before a price",
+        &[0x1000020000100000, 0x00020000000F4241],
+        16,
+    );
+}
+
+fn refused_prices() {
     send(
         b"a spare bit before a price",
         &[0x1000020000100000, 0x0001800000F00000],
@@ -100,9 +118,17 @@ fn refused_words() {
         &[0x1000010000100000, 0x00000000FFF0BDBF],
         16,
     );
+}
+
+fn refused_entries() {
     send(
         b"a spare bit in a table",
         &[0x2000010000000000, 0x0000000100000000],
+        16,
+    );
+    send(
+        b"a spare bit before a price in a table",
+        &[0x2000010000000000, 0x8000000000F00000],
         16,
     );
     send(
@@ -200,7 +226,9 @@ fn runs_of_method_2() {
 fn main() {
     refused_headers();
     refused_counts();
-    refused_words();
+    refused_lanes();
+    refused_prices();
+    refused_entries();
     runs_of_method_1();
     runs_of_method_2();
 }

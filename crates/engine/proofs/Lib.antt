@@ -9,6 +9,7 @@ pub mod Ran
 pub mod Copies
 pub mod Beyond
 pub mod Told
+pub mod Refused
 pub mod Theorems
 pub mod Placed
 pub mod Answered

@@ -12,7 +12,6 @@ use lib.Signed.{_≤ℤ_}
 use Rattle.plans.specs.Limits.{far, mostWeight}
 use Rattle.requests.specs.Word.{weightOf}
 use Rattle.requests.specs.Intake.{orFar}
-use Rattle.requests.specs.WithinLimits.{EntryWithin}
 use Rattle.graph.specs.Walk.{Edge}
 use Rattle.graph.specs.Dijkstra.{tableNetwork}
 use Rattle.engine.specs.Network.{Entered}
@@ -24,7 +23,7 @@ tableOf n ws u v = natAbs (orFar (weightOf (getD ws (u * n + v) 0)))
 -- ---- one entry
 
 -- -1, or from 0 to the most.
-abbrev Range : ℤ → Type 0
+abbrev pub Range : ℤ → Type 0
 Range z = (z ≡ negsuc 0) ⊎ ((pos 0 ≤ℤ z) × (z ≤ℤ pos 1000000))
 
 most : (n : ℕ) → Range (pos n) → n ≤ 1000000
@@ -50,11 +49,11 @@ kept (negsuc (suc n)) w r = absurd (none-lower n r)
 
 -- ---- the table
 
-pub same-edges : (n : ℕ) (ws : List ℕ) → ((u v : ℕ) → u < n → v < n → EntryWithin (getD ws (u * n + v) 0))
+pub same-edges : (n : ℕ) (ws : List ℕ) → ((u v : ℕ) → u < n → v < n → Range (weightOf (getD ws (u * n + v) 0)))
     → (e : Edge) → tableNetwork (natAbs far) n (tableOf n ws) e ↔ Entered n ws e
 same-edges n ws range e = (
-  λ p. let q = kept _ (e .weight) (range (e .from) (e .to) (p .0) (p .1) .weight) .0 (p .2, p .3) in
+  λ p. let q = kept _ (e .weight) (range (e .from) (e .to) (p .0) (p .1)) .0 (p .2, p .3) in
       record { from-there = p .0; to-there = p .1; entered = q .0; weighs = q .1 },
-  λ p. let q = kept _ (e .weight) (range (e .from) (e .to) (p .from-there) (p .to-there) .weight) .1 (p .entered, p .weighs) in
+  λ p. let q = kept _ (e .weight) (range (e .from) (e .to) (p .from-there) (p .to-there)) .1 (p .entered, p .weighs) in
       (p .from-there, p .to-there, q .0, q .1),
 )

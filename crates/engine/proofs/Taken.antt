@@ -10,16 +10,17 @@ use lib.ListN.{length, getD}
 use Rattle.plans.specs.declared.Header.{Header}
 use Rattle.plans.specs.Limits.{far, mostWeight}
 use Rattle.plans.specs.Plan.{cellsOf}
-use Rattle.requests.specs.WithinLimits.{headerIn, wordsIn, EntryWithin, WithinLimits}
+use Rattle.requests.specs.Word.{weightOf}
+use Rattle.requests.specs.WithinLimits.{headerIn, wordsIn, WithinLimits}
 use Rattle.requests.proofs.Sizes.{cells-one, cells-two}
 use Rattle.requests.proofs.Laid.{from-laid, to-laid, weight-laid, entry-laid}
-use Rattle.requests.proofs.WithinLimits.{accepted-in, cells-in, edge-in, weight-small, entry-in}
+use Rattle.requests.proofs.WithinLimits.{accepted-in, cells-in, edge-in, entry-in}
 use Rattle.methods.specs.Method1 as Method1
 use Rattle.methods.specs.Method2 as Method2
 use Rattle.engine.specs.Run.{Lent, lengthsOf, startOf, cellsLeft}
 use Rattle.engine.specs.Network.{edgeOf}
 use Rattle.engine.proofs.Intake.{long}
-use Rattle.engine.proofs.Table.{tableOf, natural, same-edges}
+use Rattle.engine.proofs.Table.{tableOf, Range, natural, same-edges}
 use Rattle.engine.proofs.Left.{Left, left}
 
 module _ (request : List ℕ) (lent : Lent)
@@ -34,7 +35,7 @@ module _ (request : List ℕ) (lent : Lent)
   enough = cells-in _ _ w
 
   source-below : h .source < h .vertices
-  source-below = w .limits .source-there
+  source-below = accepted-in _ _ w .source-there
 
   given1 : h .method ≡ 1 → Method1.Laid mostWeight (edgeOf ws) (h .vertices) (h .edges) (h .source) (startOf request lent)
   given1 e =
@@ -46,14 +47,14 @@ module _ (request : List ℕ) (lent : Lent)
         weight = weight-laid h ws (lent .cells) e;
         limited =
             record {
-              from-below = λ i l. edge i e l .from-there;
-              to-below = λ i l. edge i e l .to-there;
-              weight-most = λ i l. weight-small request _ w i e l;
+              from-below = λ i l. edge i e l .0;
+              to-below = λ i l. edge i e l .1;
+              weight-most = λ i l. edge i e l .2;
             };
         source-below = source-below;
       }
 
-  entry : h .method ≡ 2 → (u j : ℕ) → u < h .vertices → j < h .vertices → EntryWithin (getD ws (u * h .vertices + j) 0)
+  entry : h .method ≡ 2 → (u j : ℕ) → u < h .vertices → j < h .vertices → Range (weightOf (getD ws (u * h .vertices + j) 0))
   entry e u j p q =
       let n = h .vertices in
       entry-in request _ w (u * n + j) e (digits-lt {q = u} {m = n} {r = j} {c = n} p q)
@@ -63,8 +64,8 @@ module _ (request : List ℕ) (lent : Lent)
   given2 e =
       record {
         enough = omega (arith, long request lent enough, cells-two h e, enough);
-        entry = λ u j p q. entry-laid h ws (lent .cells) e u j p q ∙ natural _ (entry e u j p q .weight) .0;
-        entry-most = λ u j p q. natural _ (entry e u j p q .weight) .1;
+        entry = λ u j p q. entry-laid h ws (lent .cells) e u j p q ∙ natural _ (entry e u j p q) .0;
+        entry-most = λ u j p q. natural _ (entry e u j p q) .1;
         source-below = source-below;
       }
 

@@ -9,13 +9,16 @@ use native.Mathlib.Omega.{arith}
 use lib.Arith.{digits-lt}
 use lib.IntN.{ℤ}
 use lib.ListN.{length, getD}
+use Rattle.answers.specs.Refusal.{plain, placed}
 use Rattle.plans.specs.Limits.{far}
 use Rattle.plans.specs.Plan.{Kind, distances, parents}
 use Rattle.runner.proofs.PlanWithin.{within-plan}
+use Rattle.runner.proofs.Refused.{nine-exactly, seven-exactly, settled-plan}
 use Rattle.runner.proofs.Foreign.{refused-plan, told-plan, length-told, log-beyond, cells-long, cells-spared, replayed-plan, charge-plan, words-plan}
-use Rattle.requests.proofs.WithinLimits.{within}
-use Rattle.graph.proofs.Parents.{distances-carried, parents-carried}
 use Rattle.requests.specs.WithinLimits.{headerIn, wordsIn}
+use Rattle.requests.proofs.WithinLimits.{within}
+use Rattle.requests.proofs.Refused.{public-refused, word-refused, settled}
+use Rattle.graph.proofs.Parents.{distances-carried, parents-carried}
 use Rattle.engine.specs.Run.{Lent, outcome}
 use Rattle.engine.specs.Network.{networkOf, namingOf, sourcesOf}
 use Rattle.engine.specs.Demands.{RanOn, resultOf, Demand1, Demand2, OneSource, Demand3a, Demand3, DemandPlan}
@@ -24,6 +27,7 @@ use Rattle.engine.proofs.Ran.{allowed, leaves, by-verdict, cells-are, r
 use Rattle.engine.proofs.Sources.{only-source, first-row, single}
 use Rattle.engine.proofs.Copies.{result-copied}
 use Rattle.engine.proofs.Beyond.{beyond}
+use Rattle.engine.proofs.Refused.{refused-exactly}
 use Rattle.engine.proofs.Told.{carried-out, planned, own-header, rounds-figure, same-logs}
 
 -- Demand 1: runs and refusals.
@@ -33,6 +37,9 @@ demand1 request lent =
     record {
       runs = within request _;
       refuses = λ r e. rw e;
+      refuses-public = λ k. Iff·trans (refused-exactly request lent (plain k) (inl refl)) (public-refused request _ k);
+      refuses-word = λ k place. Iff·trans (refused-exactly request lent (placed k place) (inr refl)) (word-refused request _ k place);
+      settled = settled request _;
       tells = λ ran.
           by-verdict request lent ran
           (λ o.
@@ -115,6 +122,9 @@ demandPlan plan cells log =
     record {
       runs = within-plan plan (length cells) (length log);
       refuses = refused-plan plan cells log;
+      refuses-word = nine-exactly plan cells log;
+      refuses-log = seven-exactly plan cells log;
+      settled = settled-plan plan (length cells) (length log);
       tells = told-plan plan cells log;
       length-figure = length-told plan cells log;
       log-beyond = log-beyond plan cells log;

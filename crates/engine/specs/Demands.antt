@@ -8,6 +8,7 @@ use Prim.Native.Nat.{ℕ, _+_, _*_, _^_, _<_, _≤_}
 use lib.IntN.{ℤ, pos}
 use lib.ListN.{length, getD, take, drop}
 use Rattle.answers.specs.declared.Refusal.{Refusal}
+use Rattle.answers.specs.Refusal.{plain, placed}
 use Rattle.answers.specs.Told.{refused}
 use Rattle.machine.specs.Instruction.{All}
 use Rattle.machine.specs.Effect.{cellAt}
@@ -15,14 +16,14 @@ use Rattle.machine.specs.Log.{Spares, replay, withoutPublished, chargeOf}
 use Rattle.plans.specs.Limits.{far}
 use Rattle.plans.specs.Plan.{cellsOf, instructionsOf, planOf, Kind, distances, parents, resultsOf, verdictCell, published, roundsOfPlan}
 use Rattle.runner.specs.Runner.{logSize, runnerRefusal, planOutcome, planRounds, planLength, planLog}
-use Rattle.runner.specs.PlanWithin.{PlanWithin}
+use Rattle.runner.specs.PlanWithin.{PlanWithin, NotAllowedAt, LogShort}
 use Rattle.requests.specs.Refusal.{logLengthOf}
-use Rattle.requests.specs.WithinLimits.{headerIn, wordsIn, WithinLimits}
+use Rattle.requests.specs.WithinLimits.{headerIn, wordsIn, FirstBroken, publicLimits, WithinLimits, BrokenAt}
 use Rattle.requests.specs.Intake.{sourceOf, laid}
 use Rattle.graph.specs.Walk.{NegativeCycle}
 use Rattle.graph.specs.Shortest.{Distances, Parents, Shortest}
 use Rattle.methods.specs.Bank.{Exact}
-use Rattle.engine.specs.Run.{Lent, lengthsOf, refusalOf, startOf, outcome}
+use Rattle.engine.specs.Run.{Lent, lengthsOf, refusalOf, startOf, refusedBy, outcome}
 use Rattle.engine.specs.Network.{networkOf, namingOf, sourcesOf, CycleFrom}
 
 -- A request ran when it met no refusal, or 12 alone; 12 is told after the run.
@@ -58,9 +59,19 @@ pub record Beyond (request : List ℕ) (lent : Lent) : Type 0 where
 pub record Demand1 (request : List ℕ) (lent : Lent) : Type 0 where
   -- Every request within the limits is run to its end, and no other.
   pub runs : RanOn request lent ↔ WithinLimits request (lengthsOf lent)
-  -- Every other gets its number and, where there is one, its place, and changes no lent buffer.
+  -- Every other gets its number and, where there is one, its place, and changes no lent buffer: it is refused by r.
   pub refuses : (r : Refusal) → refusalOf request lent ≡ some r
       → outcome request lent ≡ record { answer = refused r; cells = lent .cells; log = lent .log; results = lent .results }
+  -- By a number alone exactly where that is the number of the first public limit that it breaks.
+  pub refuses-public : (number : ℕ) → (outcome request lent ≡ refusedBy (plain number) lent) ↔ FirstBroken (publicLimits request (lengthsOf lent)) number
+  -- By a number and a place exactly where it keeps those, the word there is the first that breaks a limit, and the number is that of the first
+  -- limit that this word breaks.
+  pub refuses-word : (number place : ℕ)
+      → (outcome request lent ≡ refusedBy (placed number place) lent) ↔ BrokenAt request (lengthsOf lent) place number
+  -- There is nothing else: it keeps every limit, or breaks one that is public, or one of a word.
+  pub settled : WithinLimits request (lengthsOf lent)
+      ⊎ ((number : ℕ) × FirstBroken (publicLimits request (lengthsOf lent)) number)
+      ⊎ ((place : ℕ) × (number : ℕ) × BrokenAt request (lengthsOf lent) place number)
   -- A run is told by 0 or, with verdict 1, by 12, with rounds, log length and verdict.
   pub tells : RanOn request lent
       → (outcome request lent .answer
@@ -157,6 +168,15 @@ pub record DemandPlan (plan : List ℕ) (cells : List ℤ) (log : List ℕ) : Ty
   -- Every other gets its number and, where there is one, its place, and changes no lent buffer.
   pub refuses : (r : Refusal) → runnerRefusal plan (length cells) (length log) ≡ some r
       → planOutcome plan cells log ≡ record { answer = refused r; cells = cells; log = log }
+  -- By 9 exactly at its first word that is not allowed, by 7 exactly where every word is allowed and the log is too short; there is nothing else.
+  pub refuses-word : (place : ℕ)
+      → (planOutcome plan cells log ≡ record { answer = refused (placed 9 place); cells = cells; log = log })
+      ↔ NotAllowedAt plan (length cells) place
+  pub refuses-log : (planOutcome plan cells log ≡ record { answer = refused (plain 7); cells = cells; log = log })
+      ↔ LogShort plan (length cells) (length log)
+  pub settled : PlanWithin plan (length cells) (length log)
+      ⊎ ((place : ℕ) × NotAllowedAt plan (length cells) place)
+      ⊎ LogShort plan (length cells) (length log)
   -- A run is told by 0, with rounds and log length: each word, and the published cell after each OPEN.
   pub tells : PlanRanOn plan cells log
       → planOutcome plan cells log .answer

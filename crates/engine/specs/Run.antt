@@ -114,10 +114,14 @@ ranBy (suc more) request lent =
       results = lent .results;
     }
 
--- By the refusal met: none but 12 changes a buffer.
+-- A refusal is told, and no lent buffer changes.
+abbrev pub refusedBy : Refusal → Lent → Outcome
+refusedBy r lent = record { answer = refused r; cells = lent .cells; log = lent .log; results = lent .results }
+
+-- By the refusal met; 12 is none of these, it comes after a run.
 abbrev pub outcomeBy : Option Refusal → (request : List ℕ) → Lent → Outcome
 outcomeBy none request lent = ranBy (verdictOfRun request lent) request lent
-outcomeBy (some r) request lent = record { answer = refused r; cells = lent .cells; log = lent .log; results = lent .results }
+outcomeBy (some r) request lent = refusedBy r lent
 
 unfoldable pub outcome : (request : List ℕ) → Lent → Outcome
 outcome request lent = outcomeBy (refusalOf request lent) request lent

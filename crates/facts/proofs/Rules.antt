@@ -15,7 +15,7 @@ use Rattle.plans.proofs.Facts as Plans
 use Rattle.planner.specs.Refusal.{headerRefusal}
 use Rattle.planner.proofs.Facts as Planner
 use Rattle.requests.specs.Word.{weightOf}
-use Rattle.requests.specs.Refusal.{logLengthOf, sizesRefusal, shapeGood, weightGood, wordRefusal, wordsRefusal, requestRefusal}
+use Rattle.requests.specs.Refusal.{logLengthOf, sizesRefusal, inRange, edgeRefusal, entryRefusal, wordRefusal, wordsRefusal, requestRefusal}
 use Rattle.requests.specs.Intake.{stripsOf, sourceOf, laid, copied, startingCells}
 use Rattle.requests.proofs.Facts as Requests
 use Rattle.runner.specs.Runner.{firstBad, logSize, runnerRefusal, planOutcome}
@@ -29,7 +29,7 @@ same : (o p : Outcome) → o .answer ≡ p .answer → o .cells ≡ p .cells →
 same o p a c l r = λ i. record { answer = a i; cells = c i; log = l i; results = fun-ext r i }
 
 pub rules : Rules
-unfolding signedOf bitsOf bit wrapAdd both pick perform packed packedSet decodeAt zerosKept present admissibleAt carry logged cellsAfter logFrom logOf withoutPublishedFrom withoutPublished roundsOf sumOf chargeOf flat instructions Method1.plan instructionsOf planOf cellsOf resultsOf lengthOf headerRefusal weightOf wordCountOf logLengthOf verdictCell sizesRefusal shapeGood weightGood wordRefusal wordsRefusal requestRefusal stripsOf sourceOf laid copied startingCells firstBad logSize runnerRefusal planOutcome verdictOf outcome sourcesOf
+unfolding signedOf bitsOf bit wrapAdd both pick perform packed packedSet decodeAt zerosKept present admissibleAt carry logged cellsAfter logFrom logOf withoutPublishedFrom withoutPublished roundsOf sumOf chargeOf flat instructions Method1.plan instructionsOf planOf cellsOf resultsOf lengthOf headerRefusal weightOf wordCountOf logLengthOf verdictCell sizesRefusal inRange edgeRefusal entryRefusal wordRefusal wordsRefusal requestRefusal stripsOf sourceOf laid copied startingCells firstBad logSize runnerRefusal planOutcome verdictOf outcome sourcesOf
 rules =
     record {
       answers = Answers.facts;
@@ -47,9 +47,12 @@ rules =
       seven = refl;
       eight = (refl, refl);
       nine = refl;
-      ten = refl;
+      ten = (refl, refl);
       eleven = refl;
       twelve = (refl, refl, refl);
+      thirteen = (refl, refl);
+      fourteen = (refl, refl);
+      fault-order = (refl, refl, refl, refl);
       refuses = refl;
       untouched = same _ _ refl refl refl (each-kind _ refl refl);
       sources = (refl, refl);

@@ -1,4 +1,4 @@
--- Document 01's rules as one table of facts: what the definitions of each crate give for literal words, and each of the twelve numbers from a
+-- The rules as one table of facts: what the definitions of each crate give for literal words, and each of the fourteen numbers from a
 -- request or a foreign plan to its answer. Rests on engine, and on the tables of the crates below.
 use mathlib.Core.Path.{_≡_}
 use mathlib.Core.List.{List, [], _∷_, _++_}
@@ -60,15 +60,27 @@ pub record Rules : Type 0 where
   pub eight : (requestAnswered (0x1000020000100000 ∷ 0 ∷ []) 17 48 1 2 ≡ byNumber 8) × (requestAnswered (0x1000020000100000 ∷ 0 ∷ []) 17 48 2 1 ≡ byNumber 8)
   -- "9, with place": the SET at place 1 is fine, the COPY at place 2 has a b.
   pub nine : planOutcome (0x1000020000100000 ∷ 0 ∷ 0x1000000000000001 ∷ []) (pos 9 ∷ pos 9 ∷ []) (9 ∷ 9 ∷ 9 ∷ []) .answer ≡ atPlace 9 2
-  -- "10, with place: a yard not below n, or spare bits not zero."
-  pub ten : requestAnswered (0x1000020000100000 ∷ 0x0200000000000000 ∷ []) 17 48 2 2 ≡ atPlace 10 0
+  -- "10 keeps the spare bits only" (document 02, ask 1).
+  pub ten : (requestAnswered (0x1000020000100000 ∷ 0x0000000100000000 ∷ []) 17 48 2 2 ≡ atPlace 10 0)
+      × (requestAnswered (0x2000010000000000 ∷ 0x0000000100000000 ∷ []) 12 21 1 1 ≡ atPlace 10 0)
   -- "11, with place: price outside its range."
   pub eleven : requestAnswered (0x1000020000100000 ∷ 0x00000000FFF0BDBF ∷ []) 17 48 2 2 ≡ atPlace 11 0
   -- "12: loss circle", a lane from 0 to 0 at -1. "A request's run, 12 included, answers its rounds, log length and verdict"; without results.
   pub twelve : (requestAnswered (0x1000010000100000 ∷ 0x00000000FFFFFFFF ∷ []) 14 18 1 1 ≡ record { number = 12; place = none; values = 34 ∷ 18 ∷ 1 ∷ [] })
       × (outcome (0x1000010000100000 ∷ 0x00000000FFFFFFFF ∷ []) (nines 14 18 1 1) .results distances ≡ pos 9 ∷ [])
       × (outcome (0x1000010000100000 ∷ 0x00000000FFFFFFFF ∷ []) (nines 14 18 1 1) .results parents ≡ pos 9 ∷ [])
-  -- "any other refusal only its number and, for 9 to 11, its place, and changes no lent buffer"
+  -- "13 when the from-yard is not below n" (document 02, ask 1): 2 of 2 yards, in the first lane and in the second.
+  pub thirteen : (requestAnswered (0x1000020000100000 ∷ 0x0200000000000000 ∷ []) 17 48 2 2 ≡ atPlace 13 0)
+      × (requestAnswered (0x1000020000200000 ∷ 0 ∷ 0x0200000000000000 ∷ []) 20 85 2 2 ≡ atPlace 13 1)
+  -- "14 when the to-yard is not below n".
+  pub fourteen : (requestAnswered (0x1000020000100000 ∷ 0x0002000000000000 ∷ []) 17 48 2 2 ≡ atPlace 14 0)
+      × (requestAnswered (0x1000020000200000 ∷ 0 ∷ 0x0002000000000000 ∷ []) 20 85 2 2 ≡ atPlace 14 1)
+  -- "the order is spare bits, from, to, price": both yards bad, spare bits and from-yard, to-yard and price, all four.
+  pub fault-order : (requestAnswered (0x1000020000100000 ∷ 0x0202000000000000 ∷ []) 17 48 2 2 ≡ atPlace 13 0)
+      × (requestAnswered (0x1000020000100000 ∷ 0x0200000100000000 ∷ []) 17 48 2 2 ≡ atPlace 10 0)
+      × (requestAnswered (0x1000020000100000 ∷ 0x00020000000F4241 ∷ []) 17 48 2 2 ≡ atPlace 14 0)
+      × (requestAnswered (0x1000020000100000 ∷ 0x02020001000F4241 ∷ []) 17 48 2 2 ≡ atPlace 10 0)
+  -- "any other refusal only its number and [..] its place, and changes no lent buffer"
   pub refuses : outcome (0x1000010000100000 ∷ 0x00000000FFF0BDBF ∷ []) (nines 14 18 1 1)
       ≡ record {
         answer = atPlace 11 0;

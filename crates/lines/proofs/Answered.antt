@@ -3,22 +3,22 @@
 use mathlib.Core.Path.{_≡_, refl, sym, ap, _∙_}
 use mathlib.Core.List.{List}
 use mathlib.Core.Option.{Option, none, some}
-use Prim.Native.Nat.{ℕ, zero, suc, _≤_}
-use native.Mathlib.Omega.{arith}
+use Prim.Native.Nat.{ℕ, _≤_}
 use lib.IntN.{ℤ}
 use lib.ListN.{length, getD}
 use Rattle.answers.specs.declared.Refusal.{Refusal}
 use Rattle.answers.specs.Refusal.{placeOf, placeShown}
 use Rattle.answers.specs.Told.{refused, Apart}
-use Rattle.answers.proofs.Apart.{MetApart}
+use Rattle.answers.proofs.Meets.{Meets}
 use Rattle.plans.specs.declared.Header.{Header}
 use Rattle.plans.specs.Plan.{distances, parents, byKind}
 use Rattle.requests.specs.WithinLimits.{headerIn}
 use Rattle.requests.proofs.Numbers.{request-apart}
 use Rattle.engine.specs.declared.Answer.{Answer}
 use Rattle.engine.specs.declared.Answer.the-variants.{Ran, NegativeCycle, Refused}
-use Rattle.engine.specs.Run.{toldByRun, Lent, refusalOf, verdictOfRun, ranBy, outcomeBy, outcome, Met}
 use Rattle.lines.specs.Texts.{refusalText, toldText, textOf, toldLog, logText, Distinct}
+use Rattle.engine.specs.Run.{toldByRun, Lent, refusalOf, verdictOfRun, outcomeBy, outcome, Met}
+use Rattle.engine.proofs.Refused.{ran-values}
 use Rattle.lines.proofs.Fits as Fits
 use Rattle.lines.proofs.Fits.{log-fits}
 
@@ -32,13 +32,9 @@ refused-log r a log = simp (a .0, a .1)
 
 -- An answer that tells as the outcome does is told from a run where it is a refusal: it tells no values.
 module _ (request : List ℕ) (lent : Lent) (r : Refusal) where
-  ran-values : (verdict : ℕ) → refused r ≡ ranBy verdict request lent .answer → ⊥
-  ran-values zero e = omega (arith, ap (λ t. length (t .values)) e)
-  ran-values (suc more) e = omega (arith, ap (λ t. length (t .values)) e)
-
-  told-apart : (met : Option Refusal) → MetApart met → refused r ≡ outcomeBy met request lent .answer → Apart r
-  told-apart none a e = absurd (ran-values (verdictOfRun request lent) e)
-  told-apart (some q) a e = rw (ap (λ t. t .number) e) (a .apart q refl)
+  told-apart : (met : Option Refusal) → Meets Apart met → refused r ≡ outcomeBy met request lent .answer → Apart r
+  told-apart none a e = absurd (ran-values request lent r (verdictOfRun request lent) e)
+  told-apart (some q) a e = rw (ap (λ t. t .number) e) (a .holds q refl)
 
 told-distinct : (request : List ℕ) (lent : Lent) (a : Answer) → toldByRun a ≡ outcome request lent .answer → Distinct a
 unfolding outcome

@@ -8,10 +8,11 @@ use Prim.Native.Nat.{ℕ, zero, suc, _≤_}
 use native.Mathlib.Omega.{arith}
 use lib.ListN.{length, getD, drop, length-append}
 use Rattle.answers.specs.declared.Refusal.{Refusal}
+use Rattle.answers.specs.Told.{Apart}
 use Rattle.answers.specs.Buffers.{overwritten}
-use Rattle.answers.proofs.Apart.{MetApart}
+use Rattle.answers.proofs.Meets.{Meets}
 use Rattle.requests.specs.WithinLimits.{headerIn}
-use Rattle.requests.proofs.WithinLimits.{within}
+use Rattle.requests.proofs.WithinLimits.{within, accepted-in}
 use Rattle.requests.proofs.Numbers.{request-apart}
 use Rattle.engine.specs.Run.{Lent, logOfRun, verdictOfRun, refusalOf, ranBy, outcomeBy, outcome}
 
@@ -19,10 +20,10 @@ overwritten-length : (xs ys : List ℕ) → length xs ≤ length (overwritten xs
 overwritten-length xs ys = omega (arith, length-append xs (drop (length xs) ys))
 
 module _ (request : List ℕ) (lent : Lent) where
-  few-by : (met : Option Refusal) → refusalOf request lent ≡ met → MetApart met → outcomeBy met request lent .answer .number ≡ 0
+  few-by : (met : Option Refusal) → refusalOf request lent ≡ met → Meets Apart met → outcomeBy met request lent .answer .number ≡ 0
       → headerIn request .vertices ≤ 32
-  few-by none is a e = within request _ .0 is .limits .vertices-few
-  few-by (some r) is a e = absurd (true≢false (rw e at (a .apart r refl .0)))
+  few-by none is a e = accepted-in request _ (within request _ .0 is) .vertices-few
+  few-by (some r) is a e = absurd (true≢false (rw e at (a .holds r refl .0)))
 
   pub few-vertices : outcome request lent .answer .number ≡ 0 → headerIn request .vertices ≤ 32
   unfolding outcome

@@ -1,20 +1,21 @@
 -- Which refusal a header meets, by the ways out of `check_header`; a header that meets none is within the limits.
--- Rests on answers' Unmet and Apart.
+-- Rests on answers' Unmet and Meets.
 use mathlib.Core.Path.{_≡_, refl, sym}
-use mathlib.Core.Bool.{Bool, false, true, not, _&&_}
+use mathlib.Core.Bool.{Bool, false, true, not}
 use mathlib.Core.Option.{none, some}
 use Prim.Native.Nat.{ℕ, zero, suc, _<_, _≤_}
 use native.Mathlib.Omega.{arith}
-use lib.Dec.{ltb, leb, ltb→lt, leb→le}
+use lib.Dec.{ltb, ltb→lt, leb→le}
 use borrow.Author.Tests.{lt-ltb, le-ltb, le-leb, lt-leb, not-true, not-false}
 use mir.Facts.{and-yes}
+use Rattle.answers.specs.declared.Refusal.{Refusal}
 use Rattle.answers.specs.Refusal.{Method, Vertices, Edges, Source, need}
-use Rattle.answers.proofs.Unmet.{need-none}
-use Rattle.answers.proofs.Apart.{MetApart, none-apart, need-apart}
+use Rattle.answers.proofs.Unmet.{first-none}
+use Rattle.answers.proofs.Meets.{Meets, first-meets}
 use Rattle.plans.specs.declared.Header.{Header}
 use Rattle.plans.specs.Limits.{knownMethod, mostEdges}
 use Rattle.plans.specs.Plan.{Accepted}
-use Rattle.planner.specs.Refusal.{headerRefusal}
+use Rattle.planner.specs.Refusal.{headerTests, headerRefusal}
 
 -- No other method is known.
 pub no-other : (method : ℕ) → (method ≡ 1 → ⊥) → (method ≡ 2 → ⊥) → false ≡ knownMethod method
@@ -79,24 +80,17 @@ module _ (h : Header) (known : knownMethod (h .method) ≡ true) where
 pub accepted : (h : Header) → none ≡ headerRefusal h → Accepted h
 unfolding headerRefusal
 accepted h e =
-    let (a, p) = need-none (knownMethod (h .method)) Method _ .0 (sym e) in
-    let (b, q) = need-none (ltb 0 (h .vertices) && leb (h .vertices) 32) Vertices _ .0 p in
-    let (c, r) = need-none (leb (h .edges) (mostEdges (h .method))) Edges _ .0 q in
-    let (d, _) = need-none (ltb (h .source) (h .vertices)) Source none .0 r in
-    let (b₁, b₂) = and-yes (ltb 0 (h .vertices)) _ b in
+    let (known, (vertices, (edges, (source, _)))) = first-none (headerTests h) .0 (sym e) in
+    let (some-vertex, few) = and-yes (ltb 0 (h .vertices)) _ vertices in
     record {
-      known = a;
-      vertices-some = ltb→lt 0 (h .vertices) b₁;
-      vertices-few = leb→le (h .vertices) 32 b₂;
-      edges-few = leb→le (h .edges) _ c;
-      source-there = ltb→lt (h .source) (h .vertices) d;
+      known = known;
+      vertices-some = ltb→lt 0 (h .vertices) some-vertex;
+      vertices-few = leb→le (h .vertices) 32 few;
+      edges-few = leb→le (h .edges) _ edges;
+      source-there = ltb→lt (h .source) (h .vertices) source;
     }
 
--- A run is told by none of these numbers.
-pub header-apart : (h : Header) → MetApart (headerRefusal h)
+-- What holds of these four holds of the one that is met.
+pub header-meets : (P : Refusal → Type 0) → P Method × P Vertices × P Edges × P Source → (h : Header) → Meets P (headerRefusal h)
 unfolding headerRefusal
-header-apart h =
-    need-apart (knownMethod (h .method)) Method _ (refl, refl)
-    (need-apart (ltb 0 (h .vertices) && leb (h .vertices) 32) Vertices _ (refl, refl)
-    (need-apart (leb (h .edges) (mostEdges (h .method))) Edges _ (refl, refl)
-    (need-apart (ltb (h .source) (h .vertices)) Source none (refl, refl) none-apart)))
+header-meets P (method, vertices, edges, source) h = first-meets P (headerTests h) (method, (vertices, (edges, (source, tt))))

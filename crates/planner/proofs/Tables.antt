@@ -21,7 +21,7 @@ use Rattle.plans.proofs.Bounds.{square-le}
 use Rattle.plans.proofs.Figures.{length-plan}
 use Rattle.plans.proofs.Headers.{edges-small, instructions-one, instructions-two}
 use Rattle.rows.specs.Rows.{envOf}
-use Rattle.tables.specs.Writing.{Room, Wrote, linesWords, Writable}
+use Rattle.tables.specs.Writing.{RoomAt, Wrote, linesWords, Writable}
 use Rattle.tables.proofs.Tabled as Tabled
 use Rattle.tables.proofs.Tabled.{SameRows}
 
@@ -42,7 +42,7 @@ module _ {h : Header} {m : ℕ} {starts : List ℕ} {o : Outline} (p : Outlined 
       → Writable (h .vertices) (envOf (h .vertices) m starts) lines (h .source) plan 1
   unfolding planOf
   may-write plan room =
-      let words : Room (drop 1 (planOf h)) plan 1 = record { small = small; fits = omega (arith, length-plan h a) } in
+      let words : RoomAt (drop 1 (planOf h)) plan 1 = record { small = small; fits = omega (arith, length-plan h a) } in
       Tabled.may-write (h .vertices) m (h .source) starts lines o rows
       (omega (arith, a .vertices-few)) (p .near) (rw (p .is) at words)
 

@@ -5,7 +5,7 @@ use mathlib.Core.List.{List, [], _∷_, _++_}
 use mathlib.Core.Option.{none, some}
 use Prim.Native.Nat.{ℕ}
 use lib.IntN.{pos, negsuc}
-use Rattle.plans.specs.Limits.{far, mostWeight, leastWeight}
+use Rattle.plans.specs.Limits.{far, mostWeight, leastWeight, noEdge}
 use Rattle.plans.specs.Plan.{headerOf, headerWord, Accepted, planOf, wordCountOf, cellsOf, distances, parents, span, resultsOf, verdictCell}
 
 -- ---- "Plan of method 1" at n = 2, m = 2, source 1. Cells: from 0, to 2, price 4, D at 6, P at 8, Y at 10, X at 12.
@@ -111,7 +111,7 @@ pub record Facts : Type 0 where
   pub source-past1 : ¬ Accepted (headerOf 0x1000200008000020)
   pub source-past2 : ¬ Accepted (headerOf 0x2000010000000001)
   -- "Prices: -1,000,000 to 1,000,000 in method 1, 0 to 1,000,000 or -1 in method 2."
-  pub weights : (leastWeight 1 ≡ negsuc 999999) × (leastWeight 2 ≡ negsuc 0) × (mostWeight ≡ 1000000)
+  pub weights : (leastWeight ≡ negsuc 999999) × (mostWeight ≡ 1000000) × (noEdge ≡ negsuc 0)
   -- "3m+3n+8 in all", "n²+5n+6 in all": at the limits, and at the plans below.
   pub cells : (cellsOf (headerOf 0x100020000800001F) ≡ 488)
       × (cellsOf (headerOf 0x1000020000200001) ≡ 20)

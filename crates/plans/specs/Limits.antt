@@ -24,9 +24,12 @@ mostVertices = 32
 abbrev pub mostEdges : (method : ℕ) → ℕ
 mostEdges method = byMethod method 0 (128 ∷ 0 ∷ [])
 
--- Weights (prices): from the least of the method to the greatest. In method 2, -1 stands for no edge.
+-- Weights (prices): an edge's from the least to the greatest, an entry's from 0, or -1, which stands for no edge.
 abbrev pub mostWeight : ℕ
 mostWeight = 1000000
 
-abbrev pub leastWeight : (method : ℕ) → ℤ
-leastWeight method = byMethod method (pos 0) (negsuc (mostWeight - 1) ∷ negsuc 0 ∷ [])
+abbrev pub leastWeight : ℤ
+leastWeight = negsuc (mostWeight - 1)
+
+abbrev pub noEdge : ℤ
+noEdge = negsuc 0

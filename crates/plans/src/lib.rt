@@ -9,8 +9,11 @@ pub const MOST_VERTICES: u64 = 32;
 
 pub const MOST_EDGES: u64 = 128;
 
-// The greatest weight, and the least one of an edge in method 1 (document 01: the range of prices).
+// The greatest weight; the least of an edge is as far below 0 (document 01: the range of prices).
 pub const MOST_WEIGHT: i64 = 1000000;
+
+// The weight that stands for no edge in a table.
+pub const NO_EDGE: i64 = -1;
 
 // What is public of a request (document 01, "Request words": method, n yards, m lanes, source).
 pub struct Header {

@@ -9,24 +9,24 @@ use Prim.Native.Nat.{ℕ, _≤_}
 use native.Mathlib.Omega.{arith}
 use lib.Dec.{leb, le→leb}
 use lib.ListN.{length, getD}
-use borrow.Author.Tests.{eq-eqb, le-leb}
+use borrow.Author.Tests.{eq-eqb}
 use Rattle.answers.specs.declared.Refusal.{Refusal}
 use Rattle.answers.specs.declared.Checked.{Checked}
 use Rattle.answers.specs.declared.Checked.the-variants as Checked
-use Rattle.answers.specs.Refusal.{Method, Cells, Log, Results, need, found, orElse}
+use Rattle.answers.specs.Refusal.{Method, firstOf, found, orElse}
 use Rattle.answers.specs.Told.{Told, refused}
+use Rattle.answers.proofs.Unmet.{first-none}
 use Rattle.plans.specs.declared.Header.{Header}
-use Rattle.answers.proofs.Unmet.{need-none}
-use Rattle.plans.specs.Plan.{wordCountOf, Kind, distances, parents, everyKind}
+use Rattle.plans.specs.Plan.{wordCountOf, Kind, distances, parents}
 use Rattle.plans.proofs.EachKind.{each-kind, every-kind}
 use Rattle.planner.specs.Refusal.{headerRefusal}
 use Rattle.requests.specs.declared.Lengths.{Lengths}
-use Rattle.requests.specs.Refusal.{roomFor, sizesRefusal, wordsRefusal, requestRefusal}
-use Rattle.requests.specs.Sizes.{asking, askedOf, askedBy, sizesTold}
+use Rattle.requests.specs.Refusal.{roomFor, askedOf, lengthTests, sizesRefusal, wordsRefusal, requestRefusal}
+use Rattle.requests.specs.Sizes.{asking, askedBy, sizesTold}
 use Rattle.requests.specs.WithinLimits.{headerIn, wordsIn, WithinLimits}
 use Rattle.requests.proofs.Sizes.{Sized, sizes-none}
 use Rattle.requests.proofs.Order.{in-order}
-use Rattle.requests.proofs.WithinLimits.{all-none, counted-in, cells-in, log-in, results-in, within}
+use Rattle.requests.proofs.WithinLimits.{public-none, all-none, counted-in, cells-in, log-in, results-in, within}
 
 -- ---- the ways out
 
@@ -57,8 +57,8 @@ module _ (request : List ℕ) (lent : Lengths) (w : WithinLimits request lent) w
       × (headerRefusal (headerIn request) ≡ none)
       × (wordsRefusal (headerIn request) 0 (wordsIn request) ≡ none)
   unmet =
-      let some-word : length request ≡ 0 → ⊥ = omega (arith, w .some-word) in
-      let (header, _, words) = all-none _ _ some-word .0 (within request lent .1 w) in
+      let (some-word, header, _) = public-none request lent .0 (w .public) in
+      let (_, _, words) = all-none request lent some-word .0 (within request lent .1 w) in
       (some-word, header, words)
 
   -- So it is told sizes.
@@ -80,9 +80,7 @@ module _ (request : List ℕ) (needed : Lengths) (told : sizesTold request ≡ a
   -- A request that runs in buffers of the lengths told meets, in others, 6, 7 or 8 for one that is shorter, and nothing else.
   pub by-length : WithinLimits request needed
       → requestRefusal request lent
-      ≡ need (leb (needed .cells) (lent .cells)) Cells
-      (need (leb (needed .log) (lent .log)) Log
-      (need (everyKind (λ k. leb (roomFor needed k) (roomFor lent k))) Results none))
+      ≡ firstOf (lengthTests needed lent)
   unfolding sizesRefusal
   by-length w =
       let (some-word, header, words) = unmet request needed w in
@@ -107,7 +105,11 @@ module _ (request : List ℕ) (needed : Lengths) (told : sizesTold request ≡ a
         let long : Kind → Bool = λ k. leb (roomFor needed k) (roomFor lent k) in
         within request lent .0
         (by-length w
-        ∙ rw (le-leb (needed .cells) (lent .cells) cells, le-leb (needed .log) (lent .log) log)
-        (need-none (everyKind long) Results none .1
-        (every-kind long .1 (λ k. le→leb (roomFor needed k) (roomFor lent k) (results k)), refl))),
+        ∙ first-none (lengthTests needed lent) .1 (
+          le→leb (needed .cells) (lent .cells) cells,
+          (
+            le→leb (needed .log) (lent .log) log,
+            (every-kind long .1 (λ k. le→leb (roomFor needed k) (roomFor lent k) (results k)), tt),
+          ),
+        )),
   )

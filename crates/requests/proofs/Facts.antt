@@ -5,16 +5,16 @@ use Rattle.plans.specs.Blocks.{flat}
 use Rattle.plans.specs.Plan.{wordCountOf, cellsOf, resultsOf, lengthOf, verdictCell}
 use Rattle.planner.specs.Refusal.{headerRefusal}
 use Rattle.requests.specs.Word.{weightOf}
-use Rattle.requests.specs.Refusal.{logLengthOf, sizesRefusal, shapeGood, weightGood, wordRefusal, wordsRefusal, requestRefusal}
+use Rattle.requests.specs.Refusal.{logLengthOf, sizesRefusal, inRange, edgeRefusal, entryRefusal, wordRefusal, wordsRefusal, requestRefusal}
 use Rattle.requests.specs.Sizes.{sizesTold}
 use Rattle.requests.specs.Intake.{stripsOf, sourceOf, laid, copied, startingCells}
 use Rattle.requests.specs.Facts.{Facts}
 
 pub facts : Facts
-unfolding signedOf flat cellsOf resultsOf lengthOf headerRefusal weightOf wordCountOf logLengthOf verdictCell sizesRefusal shapeGood weightGood wordRefusal wordsRefusal requestRefusal sizesTold stripsOf sourceOf laid copied startingCells
+unfolding signedOf flat cellsOf resultsOf lengthOf headerRefusal weightOf wordCountOf logLengthOf verdictCell sizesRefusal inRange edgeRefusal entryRefusal wordRefusal wordsRefusal requestRefusal sizesTold stripsOf sourceOf laid copied startingCells
 facts =
     record {
-      vertices = (refl, refl, refl, refl, refl, refl);
+      vertices = (refl, refl, refl, refl, refl, refl, refl, refl, refl);
       spare1 = (refl, refl, refl);
       spare2 = (refl, refl, refl);
       weights1 = (refl, refl, refl, refl, refl, refl);
@@ -25,7 +25,9 @@ facts =
       logs = (refl, refl);
       asked = (refl, refl, refl, refl);
       order = (refl, refl, refl, refl, refl, refl, refl, refl, refl, refl);
-      places = (refl, refl, refl, refl, refl, refl, refl, refl);
+      faults = (refl, refl, refl, refl, refl, refl, refl, refl);
+      entry-faults = refl;
+      places = (refl, refl, refl, refl, refl, refl, refl);
       strips1 = (refl, refl, refl, refl, refl, refl, refl, refl, refl, refl, refl, refl);
       strips2 = (refl, refl, refl, refl, refl);
       start1 = refl;

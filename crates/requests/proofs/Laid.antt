@@ -26,7 +26,7 @@ use Rattle.plans.proofs.Headers.{by-method}
 use Rattle.requests.specs.declared.intake.Part.the-variants.{From, To, Weight, Entry}
 use Rattle.requests.specs.declared.intake.Strip.{Strip}
 use Rattle.requests.specs.Word.{fromField, toField, weightOf}
-use Rattle.requests.specs.Intake.{strip, stripsOf, Source, nothing, sourceIn, covers, sourceFrom, sourceOf, orFar, partOf, laid, copied, startingCells, numbersOf, Fits, empty, mostStrips, padded}
+use Rattle.requests.specs.Intake.{strip, stripsOf, Source, nothing, sourceIn, covers, sourceFrom, sourceOf, orFar, partOf, laid, copied, startingCells, stripNumbers, StripFits, empty, mostStrips, padded}
 use Rattle.requests.proofs.Copied.{ones, copied-long, copied-at, copied-rest, copied-same, set-at, set-beside}
 use Rattle.requests.proofs.Sizes.{cells-one, cells-two}
 
@@ -69,7 +69,7 @@ module _ (k : ℕ) where
 -- All of them are laid; the loop reads the request's words, of which the header is the first.
 pub strip-done : (r : Strip) (request : List ℕ) (cells₀ cells : List ℤ) (i : ℕ) → i ≤ r .count → r .count ≤ i
     → cells ≡ sets cells₀ (r .at) (ones i (λ j. partOf (r .part) (getD request (r .word + 1 + j) 0)))
-    → cells ≡ sets cells₀ (r .at) (numbersOf r (drop 1 request))
+    → cells ≡ sets cells₀ (r .at) (stripNumbers r (drop 1 request))
 unfolding laid
 strip-done r request cells₀ cells i g l e =
     let n : i ≡ r .count = omega arith in
@@ -83,14 +83,14 @@ strip-done r request cells₀ cells i g l e =
 -- Strips laid one after the other.
 abbrev pub layAll : List ℕ → List Strip → List ℤ → List ℤ
 layAll ws [] cells = cells
-layAll ws (r ∷ rs) cells = layAll ws rs (sets cells (r .at) (numbersOf r ws))
+layAll ws (r ∷ rs) cells = layAll ws rs (sets cells (r .at) (stripNumbers r ws))
 
 module _ (ws : List ℕ) (words count : ℕ) (lent : List ℤ) (enough : count ≤ length lent) where
   -- The first `count` cells by their sources.
   abbrev cellsBy : (ℕ → Source) → List ℤ
   cellsBy s = copied count (λ k. laid ws (s k)) lent
 
-  module _ (r : Strip) (fits : Fits words count r) (s : ℕ → Source) where
+  module _ (r : Strip) (fits : StripFits words count r) (s : ℕ → Source) where
     -- The sources once r is laid.
     abbrev under : ℕ → Source
     under k = cond (covers r k) (sourceIn r (k - r .at)) (s k)
@@ -98,13 +98,13 @@ module _ (ws : List ℕ) (words count : ℕ) (lent : List ℤ) (enough : count �
     long : (t : ℕ → Source) → length (cellsBy t) ≡ length lent
     long t = copied-long count (λ k. laid ws (t k)) lent enough
 
-    at-cell : (k : ℕ) → getD (sets (cellsBy s) (r .at) (numbersOf r ws)) k (pos 0) ≡ getD (cellsBy under) k (pos 0)
+    at-cell : (k : ℕ) → getD (sets (cellsBy s) (r .at) (stripNumbers r ws)) k (pos 0) ≡ getD (cellsBy under) k (pos 0)
     at-cell k =
         ⊎-elim
         (λ t.
         let e : k ≡ r .at + (k - r .at) = omega (arith, t .1) in
         let u : under k ≡ sourceIn r (k - r .at) = rw (t .0) in
-        ap (λ (j : ℕ). getD (sets (cellsBy s) (r .at) (numbersOf r ws)) j (pos 0)) e
+        ap (λ (j : ℕ). getD (sets (cellsBy s) (r .at) (stripNumbers r ws)) j (pos 0)) e
         ∙ set-at (λ i. laid ws (sourceIn r i)) (cellsBy s) (r .at) (r .count) (k - r .at) (omega (arith, t .1, t .2)) (omega (arith, long s))
         ∙ sym (copied-at count (λ j. laid ws (under j)) lent k (omega (arith, t .2)) ∙ ap (laid ws) u))
         (λ o.
@@ -113,12 +113,12 @@ module _ (ws : List ℕ) (words count : ℕ) (lent : List ℤ) (enough : count �
         ∙ copied-same count (λ j. laid ws (s j)) (λ j. laid ws (under j)) lent k (sym (ap (laid ws) u)))
         (in-or-beside k r)
 
-    strip-laid : sets (cellsBy s) (r .at) (numbersOf r ws) ≡ cellsBy under
+    strip-laid : sets (cellsBy s) (r .at) (stripNumbers r ws) ≡ cellsBy under
     strip-laid =
-        ext-getD (pos 0) _ _ (length-sets (cellsBy s) (r .at) (numbersOf r ws) ∙ long s ∙ sym (long under)) (λ k l. at-cell k)
+        ext-getD (pos 0) _ _ (length-sets (cellsBy s) (r .at) (stripNumbers r ws) ∙ long s ∙ sym (long under)) (λ k l. at-cell k)
 
   -- Strips one after the other.
-  strips-laid : (rs : List Strip) (s : ℕ → Source) → All (Fits words count) rs
+  strips-laid : (rs : List Strip) (s : ℕ → Source) → All (StripFits words count) rs
       → layAll ws rs (cellsBy s) ≡ cellsBy (λ k. sourceFrom rs k (s k))
   strips-laid [] s fits = refl
   strips-laid (r ∷ rs) s fits =
@@ -142,7 +142,7 @@ unpadded : (ws : List ℕ) (n : ℕ) (rs : List Strip) (cells : List ℤ) → la
 unfolding flat
 unpadded ws zero [] cells = refl
 unpadded ws (suc n) [] cells = unpadded ws n [] cells
-unpadded ws n (r ∷ rs) cells = unpadded ws n rs (sets cells (r .at) (numbersOf r ws))
+unpadded ws n (r ∷ rs) cells = unpadded ws n rs (sets cells (r .at) (stripNumbers r ws))
 
 -- What holds of the strips and of the empty one holds at each place.
 module _ (P : Strip → Type 0) (none : P empty) where
@@ -153,10 +153,10 @@ module _ (P : Strip → Type 0) (none : P empty) where
   padded-at n (r ∷ rs) a zero = a .0
   padded-at n (r ∷ rs) a (suc k) = padded-at n rs (a .1) k
 
-strips-fit : (h : Header) → Accepted h → All (Fits (wordCountOf h) (cellsOf h)) (stripsOf h)
+strips-fit : (h : Header) → Accepted h → All (StripFits (wordCountOf h) (cellsOf h)) (stripsOf h)
 unfolding stripsOf wordCountOf cellsOf
 strips-fit =
-    by-method (λ h. All (Fits (wordCountOf h) (cellsOf h)) (stripsOf h))
+    by-method (λ h. All (StripFits (wordCountOf h) (cellsOf h)) (stripsOf h))
     (λ n m source a. search arith)
     (λ n source a. search arith)
 
@@ -187,17 +187,17 @@ module _ {h : Header} {ws : List ℕ} {lent cleared cells : List ℤ} {rs : List
   abbrev now : Strip
   now = getD rs k empty
 
-  pub fits-now : Fits (length ws) (length cells) now
+  pub fits-now : StripFits (length ws) (length cells) now
   fits-now =
-      let none : Fits (wordCountOf h) (cellsOf h) empty = record { read = zero-le; written = zero-le } in
-      let f = padded-at (Fits (wordCountOf h) (cellsOf h)) none (mostStrips - length (stripsOf h)) (stripsOf h) (strips-fit h (b .accepted)) k in
+      let none : StripFits (wordCountOf h) (cellsOf h) empty = record { read = zero-le; written = zero-le } in
+      let f = padded-at (StripFits (wordCountOf h) (cellsOf h)) none (mostStrips - length (stripsOf h)) (stripsOf h) (strips-fit h (b .accepted)) k in
       rw (b .strips) (record { read = omega (arith, f .read, b .counted); written = omega (arith, f .written, b .enough, kept) })
 
-  pub again : k < mostStrips → (next : List ℤ) → next ≡ sets cells (now .at) (numbersOf now ws) → Laying ws rs cleared next (k + 1)
+  pub again : k < mostStrips → (next : List ℤ) → next ≡ sets cells (now .at) (stripNumbers now ws) → Laying ws rs cleared next (k + 1)
   again l next e =
       let left = drop-cons rs k empty (omega (arith, b .many)) in
       record {
-        long = rw e (length-sets cells (now .at) (numbersOf now ws) ∙ laying .long);
+        long = rw e (length-sets cells (now .at) (stripNumbers now ws) ∙ laying .long);
         rest = rw (e, add-one k) (sym (ap (λ (ts : List Strip). layAll ws ts cells) left) ∙ laying .rest);
       }
 

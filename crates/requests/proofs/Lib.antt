@@ -4,6 +4,9 @@ pub mod Words
 pub mod Order
 pub mod Copied
 pub mod Laid
+pub mod Agreed
+pub mod Limits
 pub mod WithinLimits
+pub mod Refused
 pub mod Enough
 pub mod Numbers

@@ -1,43 +1,88 @@
--- Whatever refusal a request meets, its number is not one that a run is told by. Rests on answers' Apart and the planner's Headers.
-use mathlib.Core.Path.{refl}
+-- What holds of each refusal that a request can meet holds of the one it meets: only a word's has a place, that of the word, and none has a number
+-- that a run is told by. Rests on answers' Meets and the planner's Headers.
+use mathlib.Core.Path.{_≡_, refl}
+use mathlib.Core.Logic.{inl, inr}
+use mathlib.Core.Bool.{true, false}
 use mathlib.Core.List.{List, [], _∷_}
 use mathlib.Core.Option.{none}
-use Prim.Native.Nat.{ℕ, suc}
-use lib.Dec.{leb, eqb}
-use lib.ListN.{length}
-use Rattle.answers.specs.Refusal.{Method, Words, Cells, Log, Results, Edge, Weight}
-use Rattle.answers.proofs.Apart.{MetApart, none-apart, some-apart, need-apart, orElse-apart}
+use Prim.Native.Nat.{ℕ, zero, suc}
+use lib.ListN.{length, getD}
+use Rattle.answers.specs.declared.Refusal.{Refusal}
+use Rattle.answers.specs.Refusal.{placed, Method, Vertices, Edges, Source, Words, Cells, Log, Results, SpareBits, Weight, FromVertex, ToVertex, orElse}
+use Rattle.answers.specs.Told.{Apart}
+use Rattle.answers.proofs.Unmet.{orElse-assoc}
+use Rattle.answers.proofs.Told.{Formed}
+use Rattle.answers.proofs.Meets.{Meets, none-meets, some-meets, first-meets, orElse-meets}
+use Rattle.machine.specs.Instruction.{All}
 use Rattle.plans.specs.declared.Header.{Header}
-use Rattle.plans.specs.Plan.{headerOf, wordCountOf, cellsOf, everyKind, resultsOf}
+use Rattle.plans.specs.Plan.{headerOf}
 use Rattle.planner.specs.Refusal.{headerRefusal}
-use Rattle.planner.proofs.Headers.{header-apart}
+use Rattle.planner.proofs.Headers.{header-meets}
 use Rattle.requests.specs.declared.Lengths.{Lengths}
-use Rattle.requests.specs.Refusal.{logLengthOf, roomFor, sizesRefusal, shapeGood, weightGood, wordRefusal, wordsRefusal, requestRefusal}
+use Rattle.requests.specs.Refusal.{sizesTests, sizesRefusal, edgeTests, edgeRefusal, entryTests, entryRefusal, wordRefusal, wordsRefusal, requestRefusal}
 
-sizes-apart : (h : Header) (words : ℕ) (lent : Lengths) → MetApart (sizesRefusal h words lent)
-unfolding sizesRefusal
-sizes-apart h words lent =
-    need-apart (eqb words (wordCountOf h)) Words _ (refl, refl)
-    (need-apart (leb (cellsOf h) (lent .cells)) Cells _ (refl, refl)
-    (need-apart (leb (logLengthOf h) (lent .log)) Log _ (refl, refl)
-    (need-apart (everyKind (λ k. leb (resultsOf h k .count) (roomFor lent k))) Results none (refl, refl) none-apart)))
+-- What holds of each of a list, and of what stands past its end, holds of the k-th.
+each-of : {X : Type 0} → (P : X → Type 0) (xs : List X) (k : ℕ) (past : X) → P past → All P xs → P (getD xs k past)
+each-of P [] k past p a = p
+each-of P (x ∷ xs) zero past p a = a .0
+each-of P (x ∷ xs) (suc k) past p a = each-of P xs k past p (a .1)
 
-word-apart : (h : Header) (place w : ℕ) → MetApart (wordRefusal h place w)
-unfolding wordRefusal
-word-apart h place w =
-    need-apart (shapeGood h w) (Edge place) _ (refl, refl)
-    (need-apart (weightGood h w) (Weight place) none (refl, refl) none-apart)
+-- Of 1 to 8, and of those of a word at any place.
+abbrev OfPublic : (Refusal → Type 0) → Type 0
+OfPublic P = (P Method × P Vertices × P Edges × P Source) × (P Words × P Cells × P Log × P Results)
 
-words-apart : (h : Header) (place : ℕ) (ws : List ℕ) → MetApart (wordsRefusal h place ws)
-unfolding wordsRefusal
-words-apart h place [] = none-apart
-words-apart h place (w ∷ ws) =
-    orElse-apart (wordRefusal h place w) _ (word-apart h place w) (words-apart h (suc place) ws)
+abbrev OfWords : (Refusal → Type 0) → Type 0
+OfWords P = (place : ℕ) → P (SpareBits place) × P (FromVertex place) × P (ToVertex place) × P (Weight place)
 
-pub request-apart : (request : List ℕ) (lent : Lengths) → MetApart (requestRefusal request lent)
-unfolding requestRefusal
-request-apart [] lent = some-apart Method (refl, refl)
-request-apart (w ∷ ws) lent =
-    orElse-apart (headerRefusal (headerOf w)) _ (header-apart (headerOf w))
-    (orElse-apart (sizesRefusal (headerOf w) (length ws) lent) _
-    (sizes-apart (headerOf w) (length ws) lent) (words-apart (headerOf w) 0 ws))
+module _ (P : Refusal → Type 0) where
+  public-meets : OfPublic P → (h : Header) (words : ℕ) (lent : Lengths) → Meets P (orElse (headerRefusal h) (sizesRefusal h words lent))
+  unfolding sizesRefusal
+  public-meets (header, (other, cells, log, results)) h words lent =
+      orElse-meets P (headerRefusal h) _ (header-meets P header h)
+      (first-meets P (sizesTests h words lent) (other, (cells, (log, (results, tt)))))
+
+  word-meets : (place : ℕ) → P (SpareBits place) × P (FromVertex place) × P (ToVertex place) × P (Weight place)
+      → (h : Header) (w : ℕ) → Meets P (wordRefusal h place w)
+  unfolding wordRefusal edgeRefusal entryRefusal
+  word-meets place (spare, from, to, weight) h w =
+      let edge = first-meets P (edgeTests (h .vertices) place w) (spare, (from, (to, (weight, tt)))) in
+      let entry = first-meets P (entryTests place w) (spare, (weight, tt)) in
+      each-of (Meets P) (none ∷ edgeRefusal (h .vertices) place w ∷ entryRefusal place w ∷ []) (h .method) none (none-meets P)
+      (none-meets P, (edge, (entry, tt)))
+
+  words-meet : OfWords P → (h : Header) (place : ℕ) (ws : List ℕ) → Meets P (wordsRefusal h place ws)
+  unfolding wordsRefusal
+  words-meet each h place [] = none-meets P
+  words-meet each h place (w ∷ ws) =
+      orElse-meets P (wordRefusal h place w) _ (word-meets place (each place) h w) (words-meet each h (suc place) ws)
+
+  request-meets : OfPublic P → OfWords P → (request : List ℕ) (lent : Lengths) → Meets P (requestRefusal request lent)
+  unfolding requestRefusal
+  request-meets public each [] lent = some-meets P Method (public .0 .0)
+  request-meets public each (w ∷ ws) lent =
+      rw (orElse-assoc (headerRefusal (headerOf w)) _ _)
+      (orElse-meets P _ _ (public-meets public (headerOf w) (length ws) lent) (words-meet each (headerOf w) 0 ws))
+
+-- 1 to 8 have no place; a word's refusal has the word's.
+pub public-unplaced : (h : Header) (words : ℕ) (lent : Lengths) → Meets (λ r. r .placed ≡ false) (orElse (headerRefusal h) (sizesRefusal h words lent))
+public-unplaced = public-meets (λ r. r .placed ≡ false) ((refl, refl, refl, refl), (refl, refl, refl, refl))
+
+pub words-placed : (h : Header) (place : ℕ) (ws : List ℕ) → Meets (λ r. r .placed ≡ true) (wordsRefusal h place ws)
+words-placed = words-meet (λ r. r .placed ≡ true) (λ place. (refl, refl, refl, refl))
+
+pub word-place : (h : Header) (place w : ℕ) → Meets (λ r. r .place ≡ place) (wordRefusal h place w)
+word-place h place w = word-meets (λ r. r .place ≡ place) place (refl, refl, refl, refl) h w
+
+-- Each is a number alone, or a number and a place.
+pub request-formed : (request : List ℕ) (lent : Lengths) → Meets Formed (requestRefusal request lent)
+request-formed =
+    request-meets Formed
+    ((inl refl, inl refl, inl refl, inl refl), (inl refl, inl refl, inl refl, inl refl))
+    (λ place. (inr refl, inr refl, inr refl, inr refl))
+
+-- None has a run's number.
+pub request-apart : (request : List ℕ) (lent : Lengths) → Meets Apart (requestRefusal request lent)
+request-apart =
+    request-meets Apart
+    (((refl, refl), (refl, refl), (refl, refl), (refl, refl)), ((refl, refl), (refl, refl), (refl, refl), (refl, refl)))
+    (λ place. ((refl, refl), (refl, refl), (refl, refl), (refl, refl)))

@@ -9,15 +9,14 @@ use native.Mathlib.Omega.{arith}
 use lib.Dec.{leb, eqb, leb→le, le→leb, eqb→eq}
 use borrow.Author.Tests.{eq-eqb, ne-eqb, le-leb, lt-leb}
 use Rattle.answers.specs.Refusal.{Words, Cells, Log, Results}
-use Rattle.answers.proofs.Unmet.{need-none}
+use Rattle.answers.proofs.Unmet.{first-none}
 use Rattle.plans.specs.declared.Header.{Header}
-use Rattle.plans.specs.Plan.{wordCountOf, cellsOf, Kind, distances, parents, everyKind, resultsOf, verdictCell, lengthOf}
+use Rattle.plans.specs.Plan.{wordCountOf, cellsOf, Kind, distances, parents, resultsOf, verdictCell, lengthOf}
 use Rattle.plans.proofs.EachKind.{each-kind, every-kind, not-every}
 use Rattle.planner.specs.declared.Figures.{Figures}
 use Rattle.planner.specs.Figures.{Figured}
 use Rattle.requests.specs.declared.Lengths.{Lengths}
-use Rattle.requests.specs.Refusal.{logLengthOf, roomFor, sizesRefusal}
-use Rattle.requests.specs.Sizes.{askedOf}
+use Rattle.requests.specs.Refusal.{logLengthOf, roomFor, askedOf, sizesTests, sizesRefusal}
 
 -- ---- what the header asks for
 
@@ -74,31 +73,22 @@ pub record Sized (h : Header) (words : ℕ) (lent : Lengths) : Type 0 where
 pub sizes-none : (h : Header) (words : ℕ) (lent : Lengths) → (sizesRefusal h words lent ≡ none) ↔ Sized h words lent
 unfolding sizesRefusal
 sizes-none h words lent =
-    let enough : Kind → Bool = λ k. leb (resultsOf h k .count) (roomFor lent k) in
-    let w = need-none (eqb words (wordCountOf h)) Words _ in
-    let c = need-none (leb (cellsOf h) (lent .cells)) Cells _ in
-    let l = need-none (leb (logLengthOf h) (lent .log)) Log _ in
-    let r = need-none (everyKind enough) Results none in (
+    let enough : Kind → Bool = λ k. leb (roomFor (askedOf h) k) (roomFor lent k) in
+    let tests = first-none (sizesTests h words lent) in (
       λ e.
-          let (counted, after-words) = w .0 e in
-          let (cells, after-cells) = c .0 after-words in
-          let (log, after-log) = l .0 after-cells in
+          let (counted, (cells, (log, (results, _)))) = tests .0 e in
           record {
             counted = eqb→eq words (wordCountOf h) counted;
             cells = leb→le (cellsOf h) (lent .cells) cells;
             log = leb→le (logLengthOf h) (lent .log) log;
-            results = λ k. leb→le (resultsOf h k .count) (roomFor lent k) (every-kind enough .0 (r .0 after-log .0) k);
+            results = λ k. rw (room-asked h k) at (leb→le (roomFor (askedOf h) k) (roomFor lent k) (every-kind enough .0 results k));
           },
       λ s.
-          w .1 (
+          let results =
+          every-kind enough .1 (λ k. le→leb (roomFor (askedOf h) k) (roomFor lent k) (rw (room-asked h k) (s .results k))) in
+          tests .1 (
             rw (eq-eqb words (wordCountOf h) (s .counted)) tt,
-            c .1 (
-              le→leb (cellsOf h) (lent .cells) (s .cells),
-              l .1 (
-                le→leb (logLengthOf h) (lent .log) (s .log),
-                r .1 (every-kind enough .1 (λ k. le→leb (resultsOf h k .count) (roomFor lent k) (s .results k)), refl),
-              ),
-            ),
+            (le→leb (cellsOf h) (lent .cells) (s .cells), (le→leb (logLengthOf h) (lent .log) (s .log), (results, tt))),
           ),
     )
 
@@ -134,7 +124,7 @@ module _ (h : Header) (words : ℕ) (lent : Lengths) (count : ℕ) (count-is : c
               counted,
               enough-cells,
               le-leb (logLengthOf h) (lent .log) (rw asked-is at l),
-              not-every (λ k. leb (resultsOf h k .count) (roomFor lent k)) k (lt-leb _ _ (rw (asked-is, room-asked h k) at a)),
+              not-every (λ k. leb (roomFor (askedOf h) k) (roomFor lent k)) k (lt-leb _ _ (rw asked-is at a)),
             )
 
         pub distances-short : lent .distances < asked .distances → some Results ≡ sizesRefusal h words lent

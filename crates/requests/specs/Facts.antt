@@ -1,5 +1,6 @@
--- Document 01, "Request words" and "Who caused it", as facts about literal requests and buffer lengths: limits at their ends and one past them,
--- which of two refusals comes first, where a cell's first number comes from, and the starting cells. Rests on the definitions alone.
+-- Document 01, "Request words" and "Who caused it", and ask 1 of document 02, as facts about literal requests and buffer lengths: limits at their
+-- ends and one past them, which of several refusals comes first, where a cell's first number comes from, and the starting cells. Rests on the
+-- definitions alone.
 use mathlib.Core.Path.{_≡_}
 use mathlib.Core.List.{List, [], _∷_, _++_}
 use mathlib.Core.Option.{Option, none, some}
@@ -39,15 +40,19 @@ abbrev pub entry : (word : ℕ) → Told
 entry w = tried (0x2000010000000000 ∷ w ∷ []) 12 21 1 1
 
 pub record Facts : Type 0 where
-  -- "from 8, to 8, spare 16 (zero), price 32": 10 for "a yard not below n", and for a spare bit: lowest, highest, in the middle.
+  -- "from 8, to 8, spare 16 (zero), price 32": "13 when the from-yard is not below n, 14 when the to-yard is not below n", of 2 yards and of 32.
   pub vertices : (edge 0x0000000000000000 ≡ noRefusal)
       × (edge 0x0101000000000000 ≡ noRefusal)
-      × (edge 0x0200000000000000 ≡ atPlace 10 0)
-      × (edge 0x0002000000000000 ≡ atPlace 10 0)
-      × (edge 0x8000000000000000 ≡ atPlace 10 0)
-      × (edge 0x0080000000000000 ≡ atPlace 10 0)
+      × (edge 0x0200000000000000 ≡ atPlace 13 0)
+      × (edge 0x0002000000000000 ≡ atPlace 14 0)
+      × (edge 0x8000000000000000 ≡ atPlace 13 0)
+      × (edge 0x0080000000000000 ≡ atPlace 14 0)
+      × (tried (0x1000200000100000 ∷ 0x1F1F000000000000 ∷ []) 107 8388 32 32 ≡ noRefusal)
+      × (tried (0x1000200000100000 ∷ 0x2000000000000000 ∷ []) 107 8388 32 32 ≡ atPlace 13 0)
+      × (tried (0x1000200000100000 ∷ 0x0020000000000000 ∷ []) 107 8388 32 32 ≡ atPlace 14 0)
+  -- "10 keeps the spare bits only": lowest, highest, in the middle.
   pub spare1 : (edge 0x0000000100000000 ≡ atPlace 10 0) × (edge 0x0000800000000000 ≡ atPlace 10 0) × (edge 0x0000018000000000 ≡ atPlace 10 0)
-  -- "spare 32 (zero), price 32"
+  -- "spare 32 (zero), price 32": where a lane has its yards there are spare bits.
   pub spare2 : (entry 0x0000000100000000 ≡ atPlace 10 0) × (entry 0x8000000000000000 ≡ atPlace 10 0) × (entry 0x0001800000000000 ≡ atPlace 10 0)
   -- 11 for "price outside its range": "-1,000,000 to 1,000,000 in method 1", "in two's complement".
   pub weights1 : (edge 0x00000000FFF0BDC0 ≡ noRefusal)
@@ -97,14 +102,25 @@ pub record Facts : Type 0 where
       × (tried (0x1000020000100000 ∷ 0 ∷ []) 17 47 1 2 ≡ byNumber 7)
       × (tried (0x1000020000100000 ∷ 0x0200000000000000 ∷ []) 17 48 2 1 ≡ byNumber 8)
       × (tried (0x1000020000100000 ∷ 0x00000000000F4241 ∷ []) 17 48 1 2 ≡ byNumber 8)
-  -- "upward from place 0, 10 before 11 in each"; "places count from the word after the header".
-  pub places : (edge 0x02000000000F4241 ≡ atPlace 10 0)
-      × (edge 0x00020000000F4241 ≡ atPlace 10 0)
+  -- "In one lane word the order is spare bits, from, to, price": spare bits with each of the others, the from-yard with those after it, the
+  -- to-yard with the price; the last three, and all four.
+  pub faults : (edge 0x0200000100000000 ≡ atPlace 10 0)
+      × (edge 0x0002000100000000 ≡ atPlace 10 0)
       × (edge 0x00000001000F4241 ≡ atPlace 10 0)
-      × (entry 0x00000001000F4241 ≡ atPlace 10 0)
-      × (tried (0x1000020000200000 ∷ 0x00000000000F4241 ∷ 0x0200000000000000 ∷ []) 20 85 2 2 ≡ atPlace 11 0)
-      × (tried (0x1000020000200000 ∷ 0 ∷ 0x0200000000000000 ∷ []) 20 85 2 2 ≡ atPlace 10 1)
+      × (edge 0x0202000000000000 ≡ atPlace 13 0)
+      × (edge 0x02000000000F4241 ≡ atPlace 13 0)
+      × (edge 0x00020000000F4241 ≡ atPlace 14 0)
+      × (edge 0x02020000000F4241 ≡ atPlace 13 0)
+      × (edge 0x02020001000F4241 ≡ atPlace 10 0)
+  -- "10 before 11" in a table word.
+  pub entry-faults : entry 0x00000001000F4241 ≡ atPlace 10 0
+  -- "upward from place 0"; "places count from the word after the header".
+  pub places : (tried (0x1000020000200000 ∷ 0x00000000000F4241 ∷ 0x0202000100000000 ∷ []) 20 85 2 2 ≡ atPlace 11 0)
+      × (tried (0x1000020000200000 ∷ 0 ∷ 0x0000000100000000 ∷ []) 20 85 2 2 ≡ atPlace 10 1)
+      × (tried (0x1000020000200000 ∷ 0 ∷ 0x0200000000000000 ∷ []) 20 85 2 2 ≡ atPlace 13 1)
+      × (tried (0x1000020000200000 ∷ 0 ∷ 0x0002000000000000 ∷ []) 20 85 2 2 ≡ atPlace 14 1)
       × (tried (0x1000020000200000 ∷ 0 ∷ 0x00000000000F4241 ∷ []) 20 85 2 2 ≡ atPlace 11 1)
+      × (tried (0x2000020000000000 ∷ 0 ∷ 0 ∷ 0x0000000100000000 ∷ 0 ∷ []) 20 67 2 2 ≡ atPlace 10 2)
       × (tried (0x2000020000000000 ∷ 0 ∷ 0 ∷ 0 ∷ 0x00000000FFFFFFFE ∷ []) 20 67 2 2 ≡ atPlace 11 3)
   -- "from 0, to m, price 2m": the first and the last cell of each, of one lane and of the most, and the cell after them; and where there is no lane.
   pub strips1 : (sourceOf (headerOf 0x1000020000100000) 0 ≡ field 0 From)

@@ -4,11 +4,11 @@ use mathlib.Core.Bool.{Bool, cond, _&&_}
 use mathlib.Core.List.{List, [], _∷_, _++_}
 use Prim.Native.Nat.{ℕ, _+_, _-_, _*_, _≤_}
 use lib.Dec.{leb, ltb}
-use lib.IntN.{ℤ, pos, negsuc}
+use lib.IntN.{ℤ, pos}
 use lib.ListN.{length, getD, drop, replicate}
 use Rattle.machine.specs.Effect.{eqZ}
 use Rattle.plans.specs.declared.Header.{Header}
-use Rattle.plans.specs.Limits.{far, byMethod}
+use Rattle.plans.specs.Limits.{far, noEdge, byMethod}
 use Rattle.plans.specs.Blocks.{flat}
 use Rattle.plans.specs.Plan.{cellsOf}
 use Rattle.requests.specs.declared.intake.Part.{Part}
@@ -58,7 +58,7 @@ sourceOf h k = sourceFrom (stripsOf h) k nothing
 
 -- -1 as FAR, every other number as it is.
 abbrev pub orFar : ℤ → ℤ
-orFar z = cond (eqZ z (negsuc 0)) far z
+orFar z = cond (eqZ z noEdge) far z
 
 -- A field of a word. `Entry` is method 2's weight, -1 as FAR.
 abbrev pub partOf : Part → (word : ℕ) → ℤ
@@ -83,11 +83,11 @@ startingCells h ws lent = copied (cellsOf h) (λ k. laid ws (sourceOf h k)) lent
 -- ---- strip by strip, as the code lays them
 
 -- The numbers that a strip's cells get.
-abbrev pub numbersOf : Strip → List ℕ → List ℤ
-numbersOf r ws = flat (r .count) (λ i. laid ws (sourceIn r i) ∷ [])
+abbrev pub stripNumbers : Strip → List ℕ → List ℤ
+stripNumbers r ws = flat (r .count) (λ i. laid ws (sourceIn r i) ∷ [])
 
 -- Its words and its cells are there.
-pub record Fits (words cells : ℕ) (r : Strip) : Type 0 where
+pub record StripFits (words cells : ℕ) (r : Strip) : Type 0 where
   pub read : r .word + r .count ≤ words
   pub written : r .at + r .count ≤ cells
 

@@ -1,18 +1,18 @@
--- Which refusal a request meets first (document 01, "Who caused it": 1 to 8 by number, then its words upward, 10 before 11 in each).
--- Rests on headers, plans and refusals.
-use mathlib.Core.Bool.{Bool, false, _&&_}
+-- Which refusal a request meets first: 1 to 8 by number, then its words upward (document 01, "Who caused it"), in each spare bits, ends and weight
+-- (document 02, ask 1). Rests on headers, plans and refusals.
+use mathlib.Core.Bool.{Bool, _&&_}
 use mathlib.Core.List.{List, [], _∷_}
 use mathlib.Core.Option.{Option, none, some}
 use Prim.Native.Nat.{ℕ, suc, _+_}
 use lib.Dec.{ltb, leb, eqb}
-use lib.IntN.{pos}
+use lib.IntN.{ℤ, pos}
 use lib.ListN.{length}
 use lib.Signed.{leZ}
 use Rattle.answers.specs.declared.Refusal.{Refusal}
-use Rattle.answers.specs.Refusal.{Method, Words, Cells, Log, Results, Edge, Weight, need, orElse}
+use Rattle.answers.specs.Refusal.{Method, Words, Cells, Log, Results, SpareBits, Weight, FromVertex, ToVertex, firstOf, orElse}
 use Rattle.plans.specs.declared.Header.{Header}
-use Rattle.plans.specs.Limits.{byMethod, mostWeight, leastWeight}
-use Rattle.plans.specs.Plan.{headerOf, wordCountOf, cellsOf, Kind, byKind, everyKind, resultsOf, verdictCell, published, lengthOf}
+use Rattle.plans.specs.Limits.{byMethod, mostWeight, leastWeight, noEdge}
+use Rattle.plans.specs.Plan.{headerOf, wordCountOf, cellsOf, Kind, distances, parents, byKind, everyKind, resultsOf, verdictCell, published, lengthOf}
 use Rattle.planner.specs.Refusal.{headerRefusal}
 use Rattle.requests.specs.declared.Lengths.{Lengths}
 use Rattle.requests.specs.Word.{fromField, toField, spareOfEdge, spareOfEntry, weightOf}
@@ -27,31 +27,59 @@ logLengthOf h = lengthOf h + length (published (verdictCell h) 0)
 abbrev pub roomFor : Lengths → Kind → ℕ
 roomFor l = byKind (l .distances) (l .parents)
 
+-- The lengths that a header asks for.
+abbrev pub askedOf : Header → Lengths
+askedOf h =
+    record {
+      cells = cellsOf h;
+      log = logLengthOf h;
+      distances = resultsOf h distances .count;
+      parents = resultsOf h parents .count;
+    }
+
+-- 6 to 8: a lent buffer is shorter than asked.
+abbrev pub lengthTests : (asked lent : Lengths) → List (Bool × Refusal)
+lengthTests asked lent =
+    (leb (asked .cells) (lent .cells), Cells)
+    ∷ (leb (asked .log) (lent .log), Log)
+    ∷ (everyKind (λ k. leb (roomFor asked k) (roomFor lent k)), Results)
+    ∷ []
+
 -- 5 to 8, from the number of words after the header and the lengths of the lent buffers.
+abbrev pub sizesTests : (h : Header) (words : ℕ) → (lent : Lengths) → List (Bool × Refusal)
+sizesTests h words lent = (eqb words (wordCountOf h), Words) ∷ lengthTests (askedOf h) lent
+
 unfoldable pub sizesRefusal : (h : Header) (words : ℕ) → (lent : Lengths) → Option Refusal
-sizesRefusal h words lent =
-    need (eqb words (wordCountOf h)) Words
-    (need (leb (cellsOf h) (lent .cells)) Cells
-    (need (leb (logLengthOf h) (lent .log)) Log
-    (need (everyKind (λ k. leb (resultsOf h k .count) (roomFor lent k))) Results none)))
+sizesRefusal h words lent = firstOf (sizesTests h words lent)
 
 -- ---- the words
 
--- The ends are vertices, and the spare bits are zero.
-unfoldable pub shapeGood : Header → ℕ → Bool
-shapeGood h w =
-    byMethod (h .method) false
-    ((ltb (fromField w) (h .vertices) && (ltb (toField w) (h .vertices) && eqb (spareOfEdge w) 0))
-    ∷ eqb (spareOfEntry w) 0
-    ∷ [])
+-- The weight is from `least` to the greatest.
+unfoldable pub inRange : (least : ℤ) (w : ℕ) → Bool
+inRange least w = leZ least (weightOf w) && leZ (weightOf w) (pos mostWeight)
 
--- The weight is in its range.
-unfoldable pub weightGood : Header → ℕ → Bool
-weightGood h w = leZ (leastWeight (h .method)) (weightOf w) && leZ (weightOf w) (pos mostWeight)
+-- An edge (lane) of n vertices: its spare bits (10), the vertices that it leads from (13) and to (14), its weight (11).
+abbrev pub edgeTests : (n place w : ℕ) → List (Bool × Refusal)
+edgeTests n place w =
+    (eqb (spareOfEdge w) 0, SpareBits place)
+    ∷ (ltb (fromField w) n, FromVertex place)
+    ∷ (ltb (toField w) n, ToVertex place)
+    ∷ (inRange leastWeight w, Weight place)
+    ∷ []
 
--- 10 and 11, of the word at a place.
+unfoldable pub edgeRefusal : (n place w : ℕ) → Option Refusal
+edgeRefusal n place w = firstOf (edgeTests n place w)
+
+-- An entry of the table: its spare bits (10), its weight (11).
+abbrev pub entryTests : (place w : ℕ) → List (Bool × Refusal)
+entryTests place w = (eqb (spareOfEntry w) 0, SpareBits place) ∷ (inRange noEdge w, Weight place) ∷ []
+
+unfoldable pub entryRefusal : (place w : ℕ) → Option Refusal
+entryRefusal place w = firstOf (entryTests place w)
+
+-- The word at a place.
 unfoldable pub wordRefusal : (h : Header) (place w : ℕ) → Option Refusal
-wordRefusal h place w = need (shapeGood h w) (Edge place) (need (weightGood h w) (Weight place) none)
+wordRefusal h place w = byMethod (h .method) none (edgeRefusal (h .vertices) place w ∷ entryRefusal place w ∷ [])
 
 -- The first refusal of words, the first of which is at `place`.
 unfoldable pub wordsRefusal : (h : Header) (place : ℕ) → List ℕ → Option Refusal

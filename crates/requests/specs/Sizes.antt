@@ -6,12 +6,12 @@ use Rattle.answers.specs.declared.Refusal.{Refusal}
 use Rattle.answers.specs.Refusal.{Method}
 use Rattle.answers.specs.Told.{Told, refused}
 use Rattle.plans.specs.declared.Header.{Header}
-use Rattle.plans.specs.Plan.{headerOf, cellsOf, distances, parents, resultsOf}
+use Rattle.plans.specs.Plan.{headerOf}
 use Rattle.planner.specs.Refusal.{headerRefusal}
 use Rattle.requests.specs.declared.Lengths.{Lengths}
 use Rattle.requests.specs.declared.Asked.{Asked}
 use Rattle.requests.specs.declared.Asked.the-variants.{Needs, Refused}
-use Rattle.requests.specs.Refusal.{logLengthOf}
+use Rattle.requests.specs.Refusal.{askedOf}
 
 -- Cells, words of the log, and places of the results buffers, kind by kind.
 abbrev pub asking : Lengths → Told
@@ -21,16 +21,6 @@ asking l = record { number = 0; place = none; values = l .cells ∷ l .log ∷ l
 abbrev pub toldBySizes : Asked → Told
 toldBySizes (Needs lengths) = asking lengths
 toldBySizes (Refused r) = refused r
-
--- The lengths that a header asks for.
-abbrev pub askedOf : Header → Lengths
-askedOf h =
-    record {
-      cells = cellsOf h;
-      log = logLengthOf h;
-      distances = resultsOf h distances .count;
-      parents = resultsOf h parents .count;
-    }
 
 -- For the refusal that the header meets.
 abbrev pub askedBy : Option Refusal → Header → Told

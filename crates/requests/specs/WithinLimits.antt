@@ -1,8 +1,8 @@
--- The limits of document 01 for a request and the buffers lent for it, in its own numbers, as plain propositions: what a request that meets no
--- refusal is. Rests on the fields of words alone; no test of a refusal is named.
+-- The limits of document 01 for a request and the buffers lent for it, in its own numbers, as plain propositions, each with the number that is told
+-- where it is the first that is not kept. Rests on the fields of words alone; no test of a refusal is named.
 use mathlib.Core.Path.{_≡_}
 use mathlib.Core.Logic.{_⊎_}
-use mathlib.Core.List.{List, [], _∷_}
+use mathlib.Core.List.{List, [], _∷_, _++_}
 use Prim.Native.Nat.{ℕ, _+_, _-_, _*_, _<_, _≤_}
 use lib.IntN.{pos, negsuc}
 use lib.ListN.{length, getD, drop}
@@ -21,43 +21,80 @@ headerIn request = headerOf (getD request 0 0)
 abbrev pub wordsIn : (request : List ℕ) → List ℕ
 wordsIn request = drop 1 request
 
--- ---- a word after the header
+-- ---- limits in the order in which they are tested, with their numbers
 
--- Method 1, an edge (lane): its ends are below n, its spare bits are zero, its weight (price) is from -1,000,000 to 1,000,000.
-pub record EdgeWithin (n word : ℕ) : Type 0 where
-  pub from-there : fromField word < n
-  pub to-there : toField word < n
-  pub no-spare : spareOfEdge word ≡ 0
-  pub weight-least : negsuc 999999 ≤ℤ weightOf word
-  pub weight-most : weightOf word ≤ℤ pos 1000000
+-- Every one is kept.
+abbrev pub AllKept : List (ℕ × Type 0) → Type 0
+AllKept [] = Unit {0}
+AllKept (l ∷ ls) = l .1 × AllKept ls
+
+-- The first that is not kept has this number.
+abbrev pub FirstBroken : List (ℕ × Type 0) → (number : ℕ) → Type 0
+FirstBroken [] number = ⊥
+FirstBroken (l ∷ ls) number = ((number ≡ l .0) × ¬ l .1) ⊎ (l .1 × FirstBroken ls number)
+
+-- ---- what is public of a request, and what is lent for it
+
+-- Of the header's numbers.
+abbrev pub headerLimits : (method n m source : ℕ) → List (ℕ × Type 0)
+headerLimits method n m source =
+    (1, (method ≡ 1) ⊎ (method ≡ 2))
+    ∷ (2, (1 ≤ n) × (n ≤ 32))
+    ∷ (3, m ≤ byMethod method 0 (128 ∷ 0 ∷ []))
+    ∷ (4, source < n)
+    ∷ []
+
+-- Of how many words come after it, and of the lengths of the lent buffers: n distances and n parents, in either method.
+abbrev pub sizesLimits : (method n m words : ℕ) (lent : Lengths) → List (ℕ × Type 0)
+sizesLimits method n m words lent =
+    (5, words ≡ byMethod method 0 (m ∷ n * n ∷ []))
+    ∷ (6, byMethod method 0 ((3 * m + 3 * n + 8) ∷ (n * n + 5 * n + 6) ∷ []) ≤ lent .cells)
+    ∷ (7, byMethod method 0 ((3 * n + 5 + m * (8 * (n * n) + 3 * n - 1)) ∷ (n * n * n + 11 * (n * n) + 6 * n + 3) ∷ []) ≤ lent .log)
+    ∷ (8, (k : Kind) → byMethod method (λ k. 0) (byKind n n ∷ byKind n n ∷ []) k ≤ roomFor lent k)
+    ∷ []
+
+-- 1 is told of a missing header word, too.
+abbrev pub publicLimits : (request : List ℕ) (lent : Lengths) → List (ℕ × Type 0)
+publicLimits request lent =
+    (1, 1 ≤ length request)
+    ∷ (headerLimits (headerIn request .method) (headerIn request .vertices) (headerIn request .edges) (headerIn request .source)
+    ++ sizesLimits (headerIn request .method) (headerIn request .vertices) (headerIn request .edges) (length (wordsIn request)) lent)
+
+-- ---- the words after the header (document 02, ask 1)
+
+-- Method 1, an edge (lane): its spare bits are zero, it leads from and to vertices below n, its weight (price) is from -1,000,000 to 1,000,000.
+abbrev pub edgeLimits : (n word : ℕ) → List (ℕ × Type 0)
+edgeLimits n word =
+    (10, spareOfEdge word ≡ 0)
+    ∷ (13, fromField word < n)
+    ∷ (14, toField word < n)
+    ∷ (11, (negsuc 999999 ≤ℤ weightOf word) × (weightOf word ≤ℤ pos 1000000))
+    ∷ []
 
 -- Method 2, an entry of the table: its spare bits are zero, its weight is from 0 to 1,000,000, or -1 for no edge.
-pub record EntryWithin (word : ℕ) : Type 0 where
-  pub no-spare : spareOfEntry word ≡ 0
-  pub weight : (weightOf word ≡ negsuc 0) ⊎ ((pos 0 ≤ℤ weightOf word) × (weightOf word ≤ℤ pos 1000000))
+abbrev pub entryLimits : (word : ℕ) → List (ℕ × Type 0)
+entryLimits word =
+    (10, spareOfEntry word ≡ 0)
+    ∷ (11, (weightOf word ≡ negsuc 0) ⊎ ((pos 0 ≤ℤ weightOf word) × (weightOf word ≤ℤ pos 1000000)))
+    ∷ []
 
-abbrev pub WordWithin : (method n word : ℕ) → Type 0
-WordWithin method n word = byMethod method ⊥ (EdgeWithin n word ∷ EntryWithin word ∷ [])
+abbrev pub wordLimits : (method n word : ℕ) → List (ℕ × Type 0)
+wordLimits method n word = byMethod method [] (edgeLimits n word ∷ entryLimits word ∷ [])
+
+-- Of a request's word at a place, counted from the word after the header.
+abbrev pub limitsAt : (request : List ℕ) (place : ℕ) → List (ℕ × Type 0)
+limitsAt request place = wordLimits (headerIn request .method) (headerIn request .vertices) (getD (wordsIn request) place 0)
 
 -- ---- the request
 
--- Of the header's numbers, the words after it, and the lengths of the lent buffers.
-pub record Limits (method n m source : ℕ) (words : List ℕ) (lent : Lengths) : Type 0 where
-  pub method-known : (method ≡ 1) ⊎ (method ≡ 2)
-  pub vertices-some : 1 ≤ n
-  pub vertices-few : n ≤ 32
-  pub edges-few : m ≤ byMethod method 0 (128 ∷ 0 ∷ [])
-  pub source-there : source < n
-  pub counted : length words ≡ byMethod method 0 (m ∷ n * n ∷ [])
-  pub cells-enough : byMethod method 0 ((3 * m + 3 * n + 8) ∷ (n * n + 5 * n + 6) ∷ []) ≤ lent .cells
-  pub log-enough :
-      byMethod method 0 ((3 * n + 5 + m * (8 * (n * n) + 3 * n - 1)) ∷ (n * n * n + 11 * (n * n) + 6 * n + 3) ∷ []) ≤ lent .log
-  -- n distances and n parents, in either method.
-  pub results-enough : (k : Kind) → byMethod method (λ k. 0) (byKind n n ∷ byKind n n ∷ []) k ≤ roomFor lent k
-  pub words-within : (i : ℕ) → i < length words → WordWithin method n (getD words i 0)
-
+-- It keeps all of them.
 pub record WithinLimits (request : List ℕ) (lent : Lengths) : Type 0 where
-  pub some-word : 1 ≤ length request
-  pub limits :
-      Limits (headerIn request .method) (headerIn request .vertices) (headerIn request .edges) (headerIn request .source)
-      (wordsIn request) lent
+  pub public : AllKept (publicLimits request lent)
+  pub words : (place : ℕ) → place < length (wordsIn request) → AllKept (limitsAt request place)
+
+-- It keeps those that are public and those of every word before a place; the word there breaks one, and the first has this number.
+pub record BrokenAt (request : List ℕ) (lent : Lengths) (place number : ℕ) : Type 0 where
+  pub public : AllKept (publicLimits request lent)
+  pub words-before : (i : ℕ) → i < place → AllKept (limitsAt request i)
+  pub there : place < length (wordsIn request)
+  pub broken : FirstBroken (limitsAt request place) number

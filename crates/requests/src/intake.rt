@@ -8,7 +8,7 @@ ghost use lib.IntN.{pos};
 ghost use lib.ListN.{length, drop};
 ghost use lib.Seq.{sets};
 ghost use Rattle.plans.specs.Plan.{Accepted, wordCountOf, cellsOf};
-ghost use Rattle.requests.specs.Intake.{strip, stripsOf, partOf, copied, startingCells, numbersOf, Fits, padded};
+ghost use Rattle.requests.specs.Intake.{strip, stripsOf, partOf, copied, startingCells, stripNumbers, StripFits, padded};
 
 // A field of a word. Entry is method 2's weight, -1 as FAR.
 pub enum Part {
@@ -66,15 +66,19 @@ fn part_of(part: Part, word: u64) -> i64
         Part::Weight => weight(word),
         Part::Entry => {
             let value = weight(word);
-            if value == -1 { plans::FAR } else { value }
+            if value == plans::NO_EDGE {
+                plans::FAR
+            } else {
+                value
+            }
         }
     }
 }
 
 // A strip laid; the request's first word is the header.
 fn lay_strip(strip: Strip, request: &[u64], cells: &mut [i64])
-    requires { ⌜ Fits (length (drop 1 (now request))) (length (now cells)) strip ⌝ }
-    ensures { λ _. ⌜ now (cells .exit) ≡ sets (now (cells .entry)) (strip .at) (numbersOf strip (drop 1 (now (request .entry)))) ⌝ }
+    requires { ⌜ StripFits (length (drop 1 (now request))) (length (now cells)) strip ⌝ }
+    ensures { λ _. ⌜ now (cells .exit) ≡ sets (now (cells .entry)) (strip .at) (stripNumbers strip (drop 1 (now (request .entry)))) ⌝ }
 {
     let at = strip.at;
     let count = strip.count;

@@ -10,12 +10,13 @@ use plans::Header;
 ghost use mathlib.Core.Path.{_≡_};
 ghost use Prim.Native.Nat.{_<_};
 ghost use lib.ListN.{length, drop};
-ghost use Rattle.answers.specs.Refusal.{found};
+ghost use mathlib.Core.Option.{none};
+ghost use Rattle.answers.specs.Refusal.{Weight, need, found};
 ghost use Rattle.plans.specs.Plan.{Accepted};
 ghost use Rattle.planner.specs.Figures.{Figured};
 ghost use Rattle.requests.specs.Word as Word;
-ghost use Rattle.requests.specs.Refusal.{logLengthOf, sizesRefusal, shapeGood, weightGood, wordRefusal, wordsRefusal, requestRefusal};
-ghost use Rattle.requests.specs.Sizes.{toldBySizes, askedOf, sizesTold};
+ghost use Rattle.requests.specs.Refusal.{logLengthOf, askedOf, sizesRefusal, inRange, edgeRefusal, entryRefusal, wordRefusal, wordsRefusal, requestRefusal};
+ghost use Rattle.requests.specs.Sizes.{toldBySizes, sizesTold};
 
 // Lengths of a request's buffers, lent or asked for: cells, words of the log, and places of the results buffers, kind by kind.
 pub struct Lengths {
@@ -105,51 +106,57 @@ fn weight(word: u64) -> i64
     fields::signed(fields::field(word, 0, 32), 32)
 }
 
-fn good_shape(h: Header, word: u64) -> bool
-    requires { ⌜ Accepted h ⌝ }
-    ensures { λ r. ⌜ r ≡ shapeGood h word ⌝ }
-{
-    if h.method == 1 {
-        if h.vertices <= fields::field(word, 56, 8) {
-            return false;
-        }
-        if h.vertices <= fields::field(word, 48, 8) {
-            return false;
-        }
-        return fields::field(word, 32, 16) == 0;
-    }
-    fields::field(word, 32, 32) == 0
-}
-
-fn good_weight(h: Header, word: u64) -> bool
-    requires { ⌜ Accepted h ⌝ }
-    ensures { λ r. ⌜ r ≡ weightGood h word ⌝ }
+// 11, of a weight that is to be from `least` to the greatest.
+fn check_weight(least: i64, place: usize, word: u64) -> Checked
+    ensures { λ r. ⌜ found r ≡ need (inRange least word) (Weight place) none ⌝ }
 {
     let value = weight(word);
+    if value < least {
+        return Checked::Refused(Refusal::at(answers::WEIGHT, place));
+    }
     if plans::MOST_WEIGHT < value {
-        return false;
-    }
-    if h.method == 1 {
-        return -plans::MOST_WEIGHT <= value;
-    }
-    -1 <= value
-}
-
-// 10 and 11 in one word.
-fn check_word(h: Header, place: usize, word: u64) -> Checked
-    requires { ⌜ Accepted h ⌝ }
-    ensures { λ r. ⌜ found r ≡ wordRefusal h place word ⌝ }
-{
-    if !good_shape(h, word) {
-        return Checked::Refused(Refusal::at(answers::EDGE, place));
-    }
-    if !good_weight(h, word) {
         return Checked::Refused(Refusal::at(answers::WEIGHT, place));
     }
     Checked::Accepted
 }
 
-// 10 and 11, the words upward from place 0; the header is before it.
+// An edge of n vertices: 10, 13, 14 and 11.
+fn check_edge(n: u64, place: usize, word: u64) -> Checked
+    ensures { λ r. ⌜ found r ≡ edgeRefusal n place word ⌝ }
+{
+    if fields::field(word, 32, 16) != 0 {
+        return Checked::Refused(Refusal::at(answers::SPARE_BITS, place));
+    }
+    if n <= fields::field(word, 56, 8) {
+        return Checked::Refused(Refusal::at(answers::FROM_VERTEX, place));
+    }
+    if n <= fields::field(word, 48, 8) {
+        return Checked::Refused(Refusal::at(answers::TO_VERTEX, place));
+    }
+    check_weight(-plans::MOST_WEIGHT, place, word)
+}
+
+// An entry of the table: 10 and 11.
+fn check_entry(place: usize, word: u64) -> Checked
+    ensures { λ r. ⌜ found r ≡ entryRefusal place word ⌝ }
+{
+    if fields::field(word, 32, 32) == 0 {
+        return check_weight(plans::NO_EDGE, place, word);
+    }
+    Checked::Refused(Refusal::at(answers::SPARE_BITS, place))
+}
+
+fn check_word(h: Header, place: usize, word: u64) -> Checked
+    requires { ⌜ Accepted h ⌝ }
+    ensures { λ r. ⌜ found r ≡ wordRefusal h place word ⌝ }
+{
+    if h.method == 2 {
+        return check_entry(place, word);
+    }
+    check_edge(h.vertices, place, word)
+}
+
+// The words upward from place 0; the header is before it.
 fn check_words(h: Header, request: &[u64]) -> Checked
     requires { ⌜ Accepted h × (0 < length (now request)) ⌝ }
     ensures { λ r. ⌜ found r ≡ wordsRefusal h 0 (drop 1 (now (request .entry))) ⌝ }

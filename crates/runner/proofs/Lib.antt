@@ -5,3 +5,4 @@ pub mod Turn
 pub mod Foreign
 pub mod Answered
 pub mod PlanWithin
+pub mod Refused

@@ -1,24 +1,24 @@
 -- A foreign plan meets no refusal exactly where it is within the limits.
 -- Rests on Foreign, Lowest and machine's Admitted.
-use mathlib.Core.Path.{_≡_, refl}
+use mathlib.Core.Path.{_≡_, refl, sym, _∙_}
 use mathlib.Core.Logic.{_↔_, _≢_}
 use mathlib.Core.Bool.{Bool, true, false, not, _||_, true≢false}
 use mathlib.Core.List.{List, [], _∷_}
-use mathlib.Core.Option.{none}
-use Prim.Native.Nat.{ℕ, suc, _+_, _<_, _≤_}
+use mathlib.Core.Option.{none, some}
+use Prim.Native.Nat.{ℕ, zero, suc, _+_, _-_, _<_, _≤_}
 use native.Mathlib.Nat.{add-zero}
 use native.Mathlib.Decide.{ℕ-discrete}
 use native.Mathlib.Omega.{arith}
-use borrow.Author.Tests.{le-leb, lt-leb, leb-false, eq-eqb}
 use lib.Dec.{T, ltb, leb, leb→le, lt→ltb}
 use lib.ListN.{length, getD, drop, length-drop}
 use lib.Seq.{getD-drop}
 use mir.Facts.{yes-and}
+use borrow.Author.Tests.{le-leb, lt-leb, leb-false, eq-eqb}
 use Rattle.machine.specs.Word.{opField, dField, aField, bField, admissibleAt, admissible}
 use Rattle.machine.proofs.Admitted.{is-set, is-open, is-rest, op-below, spare, set-d, open-a, open-zeros, rest-in}
 use Rattle.runner.specs.Runner.{badAt, firstBad, logSize, runnerRefusal}
-use Rattle.runner.specs.PlanWithin.{WordAllowed, PlanWithin}
-use Rattle.runner.proofs.Foreign.{none-bad, none-met}
+use Rattle.runner.specs.PlanWithin.{WordAllowed, AllowedTo, PlanWithin, NotAllowedAt}
+use Rattle.runner.proofs.Foreign.{none-bad, first-bad-lowest, none-met}
 
 -- ---- one word
 
@@ -84,9 +84,19 @@ word-fine n place w = (
   λ p. fine-word (admissible n w) (leb 16777216 place) (admits-word n w place p) (lt-leb 16777216 place (p .place-there)),
 )
 
+word-bad : (n place w : ℕ) → (badAt n place w ≡ true) ↔ ¬ WordAllowed n place w
+word-bad n place w = (
+  λ e allowed. true≢false (sym e ∙ word-fine n place w .1 allowed),
+  λ bad. or-true (badAt n place w) (λ e. bad (word-fine n place w .0 e)),
+)
+  where
+    or-true : (b : Bool) → (b ≡ false → ⊥) → b ≡ true
+    or-true true other = refl
+    or-true false other = absurd (other refl)
+
 -- ---- the plan
 
--- No bad place from a place on.
+-- No bad place from a place on; and a lowest one.
 none-from : (count place : ℕ) (ws : List ℕ) → ((i : ℕ) → i < length ws → badAt count (place + i) (getD ws i 0) ≡ false)
     → firstBad count place ws ≡ none
 unfolding firstBad
@@ -95,24 +105,51 @@ none-from count place (w ∷ ws) f =
     let here : badAt count place w ≡ false = rw (add-zero place) at (f 0 (omega arith)) in
     rw here (none-from count (suc place) ws (λ i l. let e : suc place + i ≡ place + suc i = omega arith in rw e (f (suc i) (omega arith))))
 
-module _ (plan : List ℕ) (count room : ℕ) where
-  keeps : runnerRefusal plan count room ≡ none → PlanWithin plan count room
-  keeps e =
-      let (fine, enough) = none-met plan count room e in
+lowest-from : (count base : ℕ) (ws : List ℕ) (k place : ℕ) → place ≡ base + k → k < length ws → badAt count place (getD ws k 0) ≡ true
+    → ((i : ℕ) → i < k → badAt count (base + i) (getD ws i 0) ≡ false) → firstBad count base ws ≡ some place
+unfolding firstBad
+lowest-from count base [] k place is l bad f = let no : ⊥ = omega arith in absurd no
+lowest-from count base (w ∷ ws) zero place is l bad f = let s : base ≡ place = omega arith in rw (s, bad)
+lowest-from count base (w ∷ ws) (suc k) place is l bad f =
+    let here : badAt count base w ≡ false = rw (add-zero base) at (f 0 (omega arith)) in
+    rw here
+    (lowest-from count (suc base) ws k place (omega arith) (omega arith) bad
+    (λ i b. let e : suc base + i ≡ base + suc i = omega arith in rw e (f (suc i) (omega arith))))
+
+module _ (plan : List ℕ) (count : ℕ) where
+  pub allowed-from : firstBad count 1 (drop 1 plan) ≡ none → AllowedTo plan count (length plan)
+  allowed-from fine place l h = word-fine count place (getD plan place 0) .0 (none-bad plan count fine place l h)
+
+  -- The words after the header, by their places.
+  not-bad-at : (end : ℕ) → AllowedTo plan count end → (i : ℕ) → 1 + i < end → badAt count (1 + i) (getD (drop 1 plan) i 0) ≡ false
+  not-bad-at end allowed i l = rw (getD-drop 1 plan i 0) (word-fine count (1 + i) (getD plan (1 + i) 0) .1 (allowed (1 + i) (omega arith) l))
+
+  pub fine-from : AllowedTo plan count (length plan) → firstBad count 1 (drop 1 plan) ≡ none
+  fine-from allowed = none-from count 1 (drop 1 plan) (λ i l. not-bad-at (length plan) allowed i (omega (arith, length-drop 1 plan)))
+
+  pub bad-from : (place : ℕ) → NotAllowedAt plan count place → firstBad count 1 (drop 1 plan) ≡ some place
+  bad-from place n =
+      let at : 1 + (place - 1) ≡ place = omega (arith, n .after-header) in
+      let bad = word-bad count place (getD plan place 0) .1 (n .not-allowed) in
+      lowest-from count 1 (drop 1 plan) (place - 1) place (sym at) (omega (arith, n .there, length-drop 1 plan))
+      (rw (getD-drop 1 plan (place - 1) 0, at) bad) (λ i l. not-bad-at place (n .words-before) i (omega arith))
+
+  pub not-allowed-at : (place : ℕ) → firstBad count 1 (drop 1 plan) ≡ some place → NotAllowedAt plan count place
+  not-allowed-at place e =
+      let (after-header, there, bad, fine) = first-bad-lowest plan count place e in
       record {
-        words-allowed = λ place l h. word-fine count place (getD plan place 0) .0 (none-bad plan count fine place l h);
-        log-enough = leb→le (logSize plan) room enough;
+        after-header = after-header;
+        there = there;
+        words-before = λ i l h. word-fine count i (getD plan i 0) .0 (fine i l h);
+        not-allowed = word-bad count place (getD plan place 0) .0 bad;
       }
 
-  meets-none : PlanWithin plan count room → runnerRefusal plan count room ≡ none
-  unfolding runnerRefusal
-  meets-none p =
-      let fine : firstBad count 1 (drop 1 plan) ≡ none =
-      none-from count 1 (drop 1 plan)
-      (λ i l.
-      rw (getD-drop 1 plan i 0)
-      (word-fine count (1 + i) (getD plan (1 + i) 0) .1 (p .words-allowed (1 + i) (omega arith) (omega (arith, length-drop 1 plan))))) in
-      rw (fine, le-leb (logSize plan) room (p .log-enough))
-
-  pub within-plan : (runnerRefusal plan count room ≡ none) ↔ PlanWithin plan count room
-  within-plan = (keeps, meets-none)
+  module _ (room : ℕ) where
+    pub within-plan : (runnerRefusal plan count room ≡ none) ↔ PlanWithin plan count room
+    unfolding runnerRefusal
+    within-plan = (
+      λ e.
+          let (fine, enough) = none-met plan count room e in
+          record { words-allowed = allowed-from fine; log-enough = leb→le (logSize plan) room enough },
+      λ p. rw (fine-from (p .words-allowed), le-leb (logSize plan) room (p .log-enough)),
+    )

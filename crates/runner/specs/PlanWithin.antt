@@ -1,4 +1,5 @@
--- The limits of document 01 for a foreign plan and the buffers lent for it, as plain propositions: what a plan that meets no refusal is.
+-- The limits of document 01 for a foreign plan and the buffers lent for it, as plain propositions: what a plan that meets no refusal is, and what
+-- one that meets 9 or 7 is.
 -- Rests on the fields of words; no test of a refusal is named.
 use mathlib.Core.Path.{_≡_}
 use mathlib.Core.Logic.{_≢_}
@@ -19,7 +20,22 @@ pub record WordAllowed (count place word : ℕ) : Type 0 where
   pub b-there : opField word ≢ 0 → opField word ≢ 1 → opField word ≢ 7 → bField word < count
   pub place-there : place < 16777216
 
--- Places count from the header, which may be any word.
+-- Every word before `end` is allowed. Places count from the header, which may be any word.
+abbrev pub AllowedTo : (plan : List ℕ) (count end : ℕ) → Type 0
+AllowedTo plan count end = (place : ℕ) → 1 ≤ place → place < end → WordAllowed count place (getD plan place 0)
+
 pub record PlanWithin (plan : List ℕ) (count room : ℕ) : Type 0 where
-  pub words-allowed : (place : ℕ) → 1 ≤ place → place < length plan → WordAllowed count place (getD plan place 0)
+  pub words-allowed : AllowedTo plan count (length plan)
   pub log-enough : logSize plan ≤ room
+
+-- 9: the word at a place is the first that is not allowed.
+pub record NotAllowedAt (plan : List ℕ) (count place : ℕ) : Type 0 where
+  pub after-header : 1 ≤ place
+  pub there : place < length plan
+  pub words-before : AllowedTo plan count place
+  pub not-allowed : ¬ WordAllowed count place (getD plan place 0)
+
+-- 7: every word is allowed, and the log is too short.
+pub record LogShort (plan : List ℕ) (count room : ℕ) : Type 0 where
+  pub words-allowed : AllowedTo plan count (length plan)
+  pub too-short : room < logSize plan

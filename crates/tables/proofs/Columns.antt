@@ -13,7 +13,7 @@ use Rattle.machine.specs.Instruction.{All}
 use Rattle.plans.specs.Blocks.{flat}
 use Rattle.rows.proofs.Blocks.{flat-length}
 use Rattle.rows.proofs.Read.{sets-before, sets-in, sets-after}
-use Rattle.tables.specs.Writing.{Room, Wrote, Spaced}
+use Rattle.tables.specs.Writing.{RoomAt, Wrote, Spaced}
 
 -- ---- places
 
@@ -148,7 +148,7 @@ module _ (w : (c j : ℕ) → ℕ) (size count at : ℕ) (before : List ℕ) whe
       ∙ ap (λ (i : ℕ). getD (flat size (λ c. w c j ∷ [])) i 0) e
       ∙ flat-at 1 (λ c. w c j ∷ []) (λ c. refl) size c 0 h (omega arith)
 
-  module _ (room : Room words before at) where
+  module _ (room : RoomAt words before at) where
     pub ends-in : at + count * size ≤ length before
     ends-in = omega (arith, room .fits, words-length)
 
@@ -184,7 +184,7 @@ module _ (w : (c j : ℕ) → ℕ) (size count at : ℕ) (before : List ℕ) whe
         }
 
     -- After the last row, or where there are no words.
-    pub stripes : (0 < count * size → size ≤ i) → Room words before at → Wrote words before out at (at + count * size)
+    pub stripes : (0 < count * size → size ≤ i) → RoomAt words before at → Wrote words before out at (at + count * size)
     stripes h room =
         record {
           written = ext-getD 0 out (sets before at words) (s .long ∙ sym (length-sets before at words)) (λ p l.

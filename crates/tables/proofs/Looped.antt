@@ -9,7 +9,7 @@ use lib.ListN.{length, getD, set}
 use Rattle.plans.specs.declared.Counters.{Counters}
 use Rattle.plans.specs.Blocks.{flat}
 use Rattle.rows.specs.Table.{wordOf, turned, rowAt}
-use Rattle.tables.specs.Writing.{block, running, looping, unrolled, Room, Wrote, Repeated}
+use Rattle.tables.specs.Writing.{block, running, looping, unrolled, RoomAt, Wrote, Repeated}
 use Rattle.tables.proofs.Written.{begin, one, kept, turn, again, finish}
 use Rattle.tables.proofs.Copied.{copies, copies-length}
 use Rattle.tables.proofs.Counted.{turned-none}
@@ -33,10 +33,10 @@ module _ (t : List ℕ) (source r size : ℕ) (k : Counters) where
   -- ---- a word
 
   module _ (e : getD t (6 * r) 0 ≡ 0) where
-    pub word-room : {out : List ℕ} {at : ℕ} → Room (unrolled t source r size k) out at
+    pub word-room : {out : List ℕ} {at : ℕ} → RoomAt (unrolled t source r size k) out at
         → (wordOf source (rowAt t r) k < 2 ^ 64) × (at < length out)
     word-room {out} {at} h =
-        let s : Room (wordOf source (rowAt t r) k ∷ []) out at = subst (λ (ws : List ℕ). Room ws out at) (as-word e) h in
+        let s : RoomAt (wordOf source (rowAt t r) k ∷ []) out at = subst (λ (ws : List ℕ). RoomAt ws out at) (as-word e) h in
         (s .small .0, omega (arith, s .fits))
 
     pub word-put : (out : List ℕ) (at w : ℕ) → w ≡ wordOf source (rowAt t r) k → Wrote (unrolled t source r size k) out (set out at w) at (at + 1)
@@ -53,8 +53,8 @@ module _ (t : List ℕ) (source r size : ℕ) (k : Counters) where
 
   module _ {out₀ out : List ℕ} {at next : ℕ} (j : ℕ) (p : Wrote (flat j turns) out₀ out at next) where
     module _ (now : Counters) (e : now ≡ turned (getD t (6 * r) 0) j k) where
-      pub turn-room : j < getD t (6 * r + 1) 0 → Room (looping t source r size k) out₀ at → Room (block t source (r + 1) size now) out next
-      turn-room h room = rw e (turn turns j p (getD t (6 * r + 1) 0) h (subst (λ (ws : List ℕ). Room ws out₀ at) by-turns room))
+      pub turn-room : j < getD t (6 * r + 1) 0 → RoomAt (looping t source r size k) out₀ at → RoomAt (block t source (r + 1) size now) out next
+      turn-room h room = rw e (turn turns j p (getD t (6 * r + 1) 0) h (subst (λ (ws : List ℕ). RoomAt ws out₀ at) by-turns room))
 
       pub turn-put : {out′ : List ℕ} {next′ : ℕ} → Wrote (block t source (r + 1) size now) out out′ next next′
           → Wrote (flat (j + 1) turns) out₀ out′ at next′
@@ -82,11 +82,11 @@ module _ (t : List ℕ) (source r size : ℕ) (k : Counters) where
         block t source (r + 1) size
         (turned-none (getD t (6 * r) 0) j k (λ e. omega arith) (λ e. omega arith) (λ e. omega arith) v))
 
-    module _ {out : List ℕ} {at : ℕ} (room : Room (looping t source r size k) out at) where
-      all : Room (copies body (getD t (6 * r + 1) 0)) out at
-      all = subst (λ (ws : List ℕ). Room ws out at) by-copies room
+    module _ {out : List ℕ} {at : ℕ} (room : RoomAt (looping t source r size k) out at) where
+      all : RoomAt (copies body (getD t (6 * r + 1) 0)) out at
+      all = subst (λ (ws : List ℕ). RoomAt ws out at) by-copies room
 
-      pub once-room : 0 < getD t (6 * r + 1) 0 → Room body out at
+      pub once-room : 0 < getD t (6 * r + 1) 0 → RoomAt body out at
       once-room l = turn (λ j. body) 0 (begin (λ j. body) out at) (getD t (6 * r + 1) 0) l all
 
       pub copies-room : {out′ : List ℕ} {mid : ℕ} → Wrote body out out′ at mid

@@ -10,7 +10,7 @@ use Rattle.plans.specs.declared.Counters.{Counters}
 use Rattle.plans.specs.Outline as Outline
 use Rattle.rows.specs.Table.{Inside, rowAt, rowsIn, expand}
 use Rattle.rows.specs.Code.{rowOfCode}
-use Rattle.tables.specs.Writing.{sizeOf, block, unrolled, Room, Ready, Wrote, linesWords, Writable}
+use Rattle.tables.specs.Writing.{sizeOf, block, unrolled, RoomAt, Ready, Wrote, linesWords, Writable}
 use Rattle.tables.proofs.Written.{nothing, then, ahead}
 use Rattle.tables.proofs.Expanded.{own-fits, own-inside, rest-inside, next-row}
 
@@ -56,7 +56,7 @@ module _ {t : List ℕ} {source end : ℕ} {k : Counters} {whole before now : Li
         let a : r + (1 + own) ≡ suc r + sizeOf (rowAt t r) = omega (arith, e) in
         rw (m, left, a, e) (next-row t r n inside source k)
 
-    pub ready : 6 * end ≤ length t → Room whole before at → Ready t (r + 1) own (unrolled t source r own k) now place
+    pub ready : 6 * end ≤ length t → RoomAt whole before at → Ready t (r + 1) own (unrolled t source r own k) now place
     ready l room =
         record {
           there = omega (arith, fits);

@@ -12,7 +12,7 @@ use Rattle.plans.specs.Outline.{Outline, start, instructions}
 use Rattle.rows.specs.Rows.{envOf, rowsOf}
 use Rattle.rows.specs.Code.{rowOfCode}
 use Rattle.rows.proofs.Emitted.{inside, emits}
-use Rattle.tables.specs.Writing.{Room, Wrote, linesWords, Writable}
+use Rattle.tables.specs.Writing.{RoomAt, Wrote, linesWords, Writable}
 
 -- The lines have the rows of the outline.
 abbrev pub SameRows : (n : ℕ) (env lines : List ℕ) → Outline → Type 0
@@ -29,7 +29,7 @@ module _ (n m source : ℕ) (starts lines : List ℕ) (o : Outline) (rows : Same
   unfolding linesWords
   words = rw rows (emits n m source starts o start (length lines) few)
 
-  pub may-write : {out : List ℕ} {at : ℕ} → n < 2 ^ 19 → All (λ x. x < 2 ^ 19) (envOf n m starts) → Room plan out at
+  pub may-write : {out : List ℕ} {at : ℕ} → n < 2 ^ 19 → All (λ x. x < 2 ^ 19) (envOf n m starts) → RoomAt plan out at
       → Writable n (envOf n m starts) lines source out at
   may-write narrow near room =
       record {

@@ -1,5 +1,5 @@
 -- Laws of words written to a buffer: none, one, one list after another, and turn by turn in a loop.
--- Rests on Writing's Room and Wrote, and on fields' Sets.
+-- Rests on Writing's RoomAt and Wrote, and on fields' Sets.
 use mathlib.Core.Path.{_≡_, refl, sym, ap, subst, _∙_}
 use mathlib.Core.Logic.{⊎-elim}
 use mathlib.Core.List.{List, [], _∷_, _++_, append-assoc, append-nil}
@@ -12,7 +12,7 @@ use lib.Seq.{sets, length-sets}
 use Rattle.machine.specs.Instruction.{All}
 use Rattle.fields.proofs.Sets.{sets-append}
 use Rattle.plans.specs.Blocks.{flat}
-use Rattle.tables.specs.Writing.{Room, Wrote}
+use Rattle.tables.specs.Writing.{RoomAt, Wrote}
 
 -- ---- one list after another
 
@@ -36,7 +36,7 @@ module _ {xs b₀ b₁ : List ℕ} {at mid : ℕ} (p : Wrote xs b₀ b₁ at mid
       }
 
   -- Room for all is room for what comes next.
-  pub ahead : (ys rest whole : List ℕ) → xs ++ (ys ++ rest) ≡ whole → Room whole b₀ at → Room ys b₁ mid
+  pub ahead : (ys rest whole : List ℕ) → xs ++ (ys ++ rest) ≡ whole → RoomAt whole b₀ at → RoomAt ys b₁ mid
   ahead ys rest whole e r =
       let n = length-append xs (ys ++ rest) in
       let m = length-append ys rest in
@@ -72,7 +72,7 @@ begin f b at = nothing b at
 
 module _ (f : ℕ → List ℕ) {b₀ b : List ℕ} {at next : ℕ} (j : ℕ) (p : Wrote (flat j f) b₀ b at next) where
   -- A turn has room.
-  pub turn : (count : ℕ) → j < count → Room (flat count f) b₀ at → Room (f j) b next
+  pub turn : (count : ℕ) → j < count → RoomAt (flat count f) b₀ at → RoomAt (f j) b next
   turn count h r = let q = parted f count j h in ahead p (f j) (q .0) (flat count f) (q .1) r
 
   pub again : {b′ : List ℕ} {next′ : ℕ} → Wrote (f j) b b′ next next′ → Wrote (flat (j + 1) f) b₀ b′ at next′

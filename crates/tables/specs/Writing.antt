@@ -52,7 +52,7 @@ module _ (t : List ℕ) (source : ℕ) where
 -- ---- words written to a buffer
 
 -- The words fit 64 bits and the buffer.
-pub record Room (ws out : List ℕ) (at : ℕ) : Type 0 where
+pub record RoomAt (ws out : List ℕ) (at : ℕ) : Type 0 where
   pub small : All (λ w. w < 2 ^ 64) ws
   pub fits : at + length ws ≤ length out
 
@@ -60,7 +60,7 @@ pub record Room (ws out : List ℕ) (at : ℕ) : Type 0 where
 pub record Ready (t : List ℕ) (first size : ℕ) (ws out : List ℕ) (at : ℕ) : Type 0 where
   pub there : 6 * (first + size) ≤ length t
   pub inside : Inside size (rowsIn t first size)
-  pub room : Room ws out at
+  pub room : RoomAt ws out at
 
 -- The words are written from `at` on, and `next` is the place after them.
 pub record Wrote (ws before after : List ℕ) (at next : ℕ) : Type 0 where
@@ -99,4 +99,4 @@ module _ (n : ℕ) (env lines : List ℕ) (source : ℕ) where
     pub narrow : n < 2 ^ 19
     pub near : All (λ x. x < 2 ^ 19) env
     pub inside : Inside (length lines) (map (rowOfCode n env) lines)
-    pub room : Room linesWords out at
+    pub room : RoomAt linesWords out at

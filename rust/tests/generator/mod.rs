@@ -1,5 +1,7 @@
 //! Requests, foreign plans and lent buffers from a fixed seed.
 
+pub mod faults;
+
 use crate::reference::plan::{pack, Public};
 use crate::reference::{log_length, plan_words, Buffers};
 
@@ -221,16 +223,24 @@ fn damage_word(random: &mut Random, request: &mut [u64]) {
         return;
     }
     let at = 1 + random.index(request.len() - 1);
+    let public = Public::read(request[0]);
     let word = &mut request[at];
-    match random.below(7) {
+    match random.below(8) {
         0 => *word ^= 1 << random.below(64),
         1 => *word ^= 1 << (32 + random.below(16)),
         2 => *word = *word & !(0xFF << 56) | random.below(40) << 56,
         3 => *word = *word & !(0xFF << 48) | random.below(40) << 48,
         4 => *word = *word >> 32 << 32 | (MOST as u64 + random.below(2)),
         5 => *word = *word >> 32 << 32 | u64::from((-MOST - random.between(0, 1)) as u32),
+        6 if (1..=32).contains(&public.n) => *word = faulty_word(random, &public),
         _ => *word = random.word(),
     }
+}
+
+fn faulty_word(random: &mut Random, public: &Public) -> u64 {
+    let numbers = faults::numbers(public.method).iter().copied();
+    let chosen: Vec<u64> = numbers.filter(|_| random.one_in(2)).collect();
+    faults::word(random, public, &chosen)
 }
 
 /// A foreign plan for that many cells; every word can be carried out.

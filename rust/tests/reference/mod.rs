@@ -1,4 +1,4 @@
-//! An implementation of document 01 that shares nothing with the library.
+//! An implementation of the rules that shares nothing with the library.
 
 pub mod graph;
 pub mod plan;
@@ -70,20 +70,27 @@ fn header_fault(request: &[u64]) -> Option<u64> {
     }
 }
 
-/// The refusal of a word after the header, 10 before 11.
+/// The first refusal of a word after the header: spare bits, from-yard, to-yard, price.
 fn word_fault(public: &Public, word: u64) -> Option<u64> {
-    let price = i64::from(word as u32 as i32);
-    let (misplaced, outside) = if public.method == 1 {
-        let stranger = word >> 56 >= public.n || word >> 48 & 0xFF >= public.n;
-        let spare = word >> 32 & 0xFFFF != 0;
-        (stranger || spare, !(-MOST..=MOST).contains(&price))
+    let (upper, price) = (word >> 32, i64::from(word as u32 as i32));
+    if public.method == 2 {
+        return match upper {
+            0 if (-1..=MOST).contains(&price) => None,
+            0 => Some(11),
+            _ => Some(10),
+        };
+    }
+    let (from, to, spare) = (upper >> 24, upper >> 16 & 0xFF, upper & 0xFFFF);
+    if spare != 0 {
+        Some(10)
+    } else if from >= public.n {
+        Some(13)
+    } else if to >= public.n {
+        Some(14)
+    } else if price.abs() > MOST {
+        Some(11)
     } else {
-        (word >> 32 != 0, !(-1..=MOST).contains(&price))
-    };
-    match (misplaced, outside) {
-        (true, _) => Some(10),
-        (_, true) => Some(11),
-        _ => None,
+        None
     }
 }
 

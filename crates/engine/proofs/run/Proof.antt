@@ -50,7 +50,7 @@ returns c =
 
 shared-slice-read-read-header : tie.Need-shared-slice-read-read-header
 unfolding begun
-shared-slice-read-read-header c = omega (arith, limits _ (lent (begun (c .before))) (fine (c .before)) .some-word)
+shared-slice-read-read-header c = omega (arith, limits _ (lent (begun (c .before))) (fine (c .before)) .public .0)
 
 figures-of-requires : tie.Need-figures-of-requires
 unfolding begun checked lent

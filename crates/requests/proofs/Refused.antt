@@ -1,0 +1,190 @@
+-- A request is refused for a word, by a number, exactly where that is its first word that breaks a limit and the number is that of the first limit
+-- broken. Rests on Agreed, WithinLimits, Order and Numbers.
+use mathlib.Core.Path.{_≡_, refl, sym, ap, _∙_}
+use mathlib.Core.Logic.{_↔_, _⊎_, inl, inr, ⊎-elim}
+use mathlib.Core.Bool.{true, false, true≢false}
+use mathlib.Core.List.{List, [], _∷_, _++_}
+use mathlib.Core.Option.{Option, none, some, Option·some-ne-none, Option·some-injective}
+use Prim.Native.Nat.{ℕ, zero, suc, _+_, _<_, _≤_}
+use native.Mathlib.Omega.{arith}
+use lib.ListN.{length, getD}
+use Rattle.answers.specs.declared.Refusal.{Refusal}
+use Rattle.answers.specs.Refusal.{plain, placed, Method, orElse}
+use Rattle.answers.proofs.Unmet.{orElse-none, orElse-assoc}
+use Rattle.answers.proofs.Meets.{Meets}
+use Rattle.plans.specs.declared.Header.{Header}
+use Rattle.planner.specs.Refusal.{headerRefusal}
+use Rattle.planner.proofs.Headers.{accepted}
+use Rattle.requests.specs.declared.Lengths.{Lengths}
+use Rattle.requests.specs.Refusal.{sizesRefusal, wordRefusal, wordsRefusal, requestRefusal}
+use Rattle.requests.specs.WithinLimits.{headerIn, wordsIn, FirstBroken, headerLimits, sizesLimits, publicLimits, WithinLimits, BrokenAt}
+use Rattle.requests.proofs.Order.{no-word, in-order}
+use Rattle.requests.proofs.Limits.{public-agrees, word-agrees}
+use Rattle.requests.proofs.WithinLimits.{public-none, within}
+use Rattle.requests.proofs.Numbers.{public-unplaced, words-placed, word-place, request-formed}
+
+-- ---- words in their order
+
+-- Of words, the first of which is at `base`: the one at `place` meets r, and none before it meets any. k counts from the first.
+record First (h : Header) (base : ℕ) (ws : List ℕ) (r : Refusal) : Type 0 where
+  k : ℕ
+  there : k < length ws
+  met : (place : ℕ) → place ≡ base + k → wordRefusal h place (getD ws k 0) ≡ some r
+  before : (j place : ℕ) → j < k → place ≡ base + j → wordRefusal h place (getD ws j 0) ≡ none
+
+module _ (h : Header) (base w : ℕ) (ws : List ℕ) (r : Refusal) where
+  here : wordRefusal h base w ≡ some r → First h base (w ∷ ws) r
+  here e =
+      record {
+        k = 0;
+        there = omega arith;
+        met = λ place i. let s : place ≡ base = omega arith in rw s e;
+        before = λ j place l i. let no : ⊥ = omega arith in absurd no;
+      }
+
+  module _ (e : wordRefusal h base w ≡ none) (f : First h (suc base) ws r) where
+    earlier : (j place : ℕ) → j < suc (f .k) → place ≡ base + j → wordRefusal h place (getD (w ∷ ws) j 0) ≡ none
+    earlier zero place l i = let s : place ≡ base = omega arith in rw s e
+    earlier (suc j) place l i = f .before j place (omega arith) (omega arith)
+
+    later : First h base (w ∷ ws) r
+    later =
+        record {
+          k = suc (f .k);
+          there = omega arith;
+          met = λ place i. f .met place (omega arith);
+          before = earlier;
+        }
+
+first-at : (h : Header) (base w : ℕ) (ws : List ℕ) (r : Refusal) (o : Option Refusal) → wordRefusal h base w ≡ o
+    → orElse o (wordsRefusal h (suc base) ws) ≡ some r
+    → (wordsRefusal h (suc base) ws ≡ some r → First h (suc base) ws r) → First h base (w ∷ ws) r
+first-at h base w ws r none i e rest = later h base w ws r i (rest e)
+first-at h base w ws r (some q) i e rest = here h base w ws r (i ∙ e)
+
+first-from : (h : Header) (base : ℕ) (ws : List ℕ) (r : Refusal) → wordsRefusal h base ws ≡ some r → First h base ws r
+unfolding wordsRefusal
+first-from h base [] r e = absurd (Option·some-ne-none r (sym e))
+first-from h base (w ∷ ws) r e = first-at h base w ws r (wordRefusal h base w) refl e (first-from h (suc base) ws r)
+
+met-at : (h : Header) (base : ℕ) (ws : List ℕ) (r : Refusal) (k place : ℕ) → place ≡ base + k → k < length ws
+    → wordRefusal h place (getD ws k 0) ≡ some r
+    → ((j place : ℕ) → j < k → place ≡ base + j → wordRefusal h place (getD ws j 0) ≡ none)
+    → wordsRefusal h base ws ≡ some r
+unfolding wordsRefusal
+met-at h base [] r k place i l e before = let no : ⊥ = omega arith in absurd no
+met-at h base (w ∷ ws) r zero place i l e before = let s : base ≡ place = omega arith in rw (s, e)
+met-at h base (w ∷ ws) r (suc k) place i l e before =
+    rw (before 0 base (omega arith) (omega arith))
+    (met-at h (suc base) ws r k place (omega arith) (omega arith) e (λ j p b q. before (suc j) p (omega arith) (omega arith)))
+
+first-met : (h : Header) (base : ℕ) (ws : List ℕ) (r : Refusal) → First h base ws r → wordsRefusal h base ws ≡ some r
+first-met h base ws r f = met-at h base ws r (f .k) (base + f .k) refl (f .there) (f .met (base + f .k) refl) (f .before)
+
+-- ---- the request
+
+-- Of two checks, the first without places and the second with places, each refusal is the one's or the other's.
+from-first : (a b : Option Refusal) (k : ℕ) → Meets (λ r. r .placed ≡ true) b → orElse a b ≡ some (plain k) → a ≡ some (plain k)
+from-first none b k m e = absurd (true≢false (sym (m .holds (plain k) e)))
+from-first (some q) b k m e = e
+
+from-second : (a b : Option Refusal) (k place : ℕ) → Meets (λ r. r .placed ≡ false) a → orElse a b ≡ some (placed k place)
+    → (a ≡ none) × (b ≡ some (placed k place))
+from-second none b k place m e = (refl, e)
+from-second (some q) b k place m e = absurd (true≢false (m .holds (placed k place) e))
+
+module _ (request : List ℕ) (lent : Lengths) where
+  abbrev h : Header
+  h = headerIn request
+
+  abbrev ws : List ℕ
+  ws = wordsIn request
+
+  abbrev public : Option Refusal
+  public = orElse (headerRefusal h) (sizesRefusal h (length ws) lent)
+
+  in-two : (length request ≡ 0 → ⊥) → requestRefusal request lent ≡ orElse public (wordsRefusal h 0 ws)
+  in-two some-word = in-order request lent some-word ∙ orElse-assoc (headerRefusal h) _ _
+
+  -- With a header word.
+  by-public : (length request ≡ 0 → ⊥) → (number : ℕ)
+      → (requestRefusal request lent ≡ some (plain number))
+      ↔ FirstBroken (headerLimits (h .method) (h .vertices) (h .edges) (h .source) ++ sizesLimits (h .method) (h .vertices) (h .edges) (length ws) lent) number
+  by-public some-word number =
+      let agrees = public-agrees h (length ws) lent .broken number in (
+        λ e. agrees .0 (from-first public _ number (words-placed h 0 ws) (sym (in-two some-word) ∙ e)),
+        λ b. in-two some-word ∙ rw (agrees .1 b),
+      )
+
+  module _ (number place : ℕ) where
+    told-word : requestRefusal request lent ≡ some (placed number place) → BrokenAt request lent place number
+    told-word e =
+        let some-word : length request ≡ 0 → ⊥ =
+        λ z. true≢false (sym (ap (λ r. r .placed) (Option·some-injective Method (placed number place) (no-word request lent z ∙ e)))) in
+        let (met, words) = from-second public _ number place (public-unplaced h (length ws) lent) (sym (in-two some-word) ∙ e) in
+        let (header, sizes) = orElse-none (headerRefusal h) (sizesRefusal h (length ws) lent) .0 met in
+        let a = accepted h (sym header) in
+        let f = first-from h 0 ws (placed number place) words in
+        let at : place ≡ f .k = word-place h (f .k) (getD ws (f .k) 0) .holds (placed number place) (f .met (f .k) (omega arith)) in
+        record {
+          public = public-none request lent .1 (some-word, header, sizes);
+          words-before = λ i l. word-agrees h a i (getD ws i 0) .kept .0 (f .before i i (omega arith) (omega arith));
+          there = omega arith;
+          broken = word-agrees h a place (getD ws place 0) .broken number .0 (rw (sym at) at (f .met place (omega arith)));
+        }
+
+    refused-word : BrokenAt request lent place number → requestRefusal request lent ≡ some (placed number place)
+    refused-word w =
+        let (some-word, header, sizes) = public-none request lent .0 (w .public) in
+        let a = accepted h (sym header) in
+        let first : First h 0 ws (placed number place) =
+        record {
+          k = place;
+          there = w .there;
+          met = λ p i. let s : p ≡ place = omega arith in rw s (word-agrees h a place (getD ws place 0) .broken number .1 (w .broken));
+          before = λ j p l i. let s : p ≡ j = omega arith in rw s (word-agrees h a j (getD ws j 0) .kept .1 (w .words-before j l));
+        } in
+        in-two some-word ∙ rw (header, sizes) (first-met h 0 ws (placed number place) first)
+
+    -- With a place: a word's.
+    pub word-refused : (requestRefusal request lent ≡ some (placed number place)) ↔ BrokenAt request lent place number
+    word-refused = (told-word, refused-word)
+
+-- Without a place: 1 to 8, the first of them for a missing header word, too.
+missing : (number : ℕ) (rest : Type 0) → (some Method ≡ some (plain number)) ↔ (((number ≡ 1) × ¬ (1 ≤ 0)) ⊎ ((1 ≤ 0) × rest))
+missing number rest = (
+  λ e. inl (sym (ap (λ r. r .number) (Option·some-injective Method (plain number) e)), λ l. omega arith),
+  ⊎-elim (λ (f : (number ≡ 1) × ¬ (1 ≤ 0)). rw (f .0)) (λ (r : (1 ≤ 0) × rest). let no : ⊥ = omega (arith, r .0) in absurd no),
+)
+
+present : (number count : ℕ) (met rest : Type 0) → 1 ≤ count → met ↔ rest → met ↔ (((number ≡ 1) × ¬ (1 ≤ count)) ⊎ ((1 ≤ count) × rest))
+present number count met rest some-word same = (
+  λ e. inr (some-word, same .0 e),
+  ⊎-elim (λ (f : (number ≡ 1) × ¬ (1 ≤ count)). absurd (f .1 some-word)) (λ (r : (1 ≤ count) × rest). same .1 (r .1)),
+)
+
+pub public-refused : (request : List ℕ) (lent : Lengths) (number : ℕ)
+    → (requestRefusal request lent ≡ some (plain number)) ↔ FirstBroken (publicLimits request lent) number
+unfolding requestRefusal
+public-refused [] lent number = missing number _
+public-refused (w ∷ ws) lent number =
+    present number (length (w ∷ ws)) _ _ (omega arith) (by-public (w ∷ ws) lent (λ z. omega (arith, z)) number)
+
+-- Nothing else is met.
+settled-by : (request : List ℕ) (lent : Lengths) (met : Option Refusal) → requestRefusal request lent ≡ met
+    → WithinLimits request lent
+    ⊎ ((number : ℕ) × FirstBroken (publicLimits request lent) number)
+    ⊎ ((place : ℕ) × (number : ℕ) × BrokenAt request lent place number)
+settled-by request lent none e = inl (within request lent .0 e)
+settled-by request lent (some r) e =
+    ⊎-elim
+    (λ (is : r ≡ plain (r .number)). inr (inl (r .number, public-refused request lent (r .number) .0 (e ∙ ap some is))))
+    (λ (is : r ≡ placed (r .number) (r .place)).
+    inr (inr (r .place, r .number, word-refused request lent (r .number) (r .place) .0 (e ∙ ap some is))))
+    (request-formed request lent .holds r e)
+
+pub settled : (request : List ℕ) (lent : Lengths)
+    → WithinLimits request lent
+    ⊎ ((number : ℕ) × FirstBroken (publicLimits request lent) number)
+    ⊎ ((place : ℕ) × (number : ℕ) × BrokenAt request lent place number)
+settled request lent = settled-by request lent (requestRefusal request lent) refl
