@@ -1,5 +1,5 @@
 -- A request meets no refusal exactly where it is within the limits; what the code's definitions make of these; and how large its fields are.
--- Rests on Sizes, Order, answers' Unmet and the planner's Headers.
+-- Rests on Limits, Sizes, Order and the planner's Headers.
 use mathlib.Core.Path.{_≡_, refl, sym, _∙_}
 use mathlib.Core.Logic.{_↔_, _⊎_}
 use mathlib.Core.List.{List, [], _∷_}
