@@ -20,9 +20,9 @@ use Rattle.planner.specs.declared.Figures.{Figures}
 use Rattle.planner.specs.Figures.{cellIn, spanIn, Figured}
 use Rattle.requests.specs.Refusal.{roomFor}
 use Rattle.requests.specs.WithinLimits.{headerIn, wordsIn, WithinLimits}
-use Rattle.requests.specs.Intake.{copied, startingCells}
 use Rattle.requests.proofs.WithinLimits.{accepted-in, counted-in, cells-in, log-in, results-in}
-use Rattle.requests.proofs.Laid.{start-long}
+use Rattle.intake.specs.Intake.{copied, startingCells}
+use Rattle.intake.proofs.Laid.{start-long}
 use Rattle.engine.specs.declared.Answer.the-variants.{Ran, NegativeCycle, Refused}
 use Rattle.engine.specs.Run.{Lent, lengthsOf, refusalOf, verdictAt, There, verdictOf, outcome, Met}
 use Rattle.engine.proofs.Logs.{log-length}

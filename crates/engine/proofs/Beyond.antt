@@ -12,7 +12,7 @@ use Rattle.machine.proofs.Carried.{length-after}
 use Rattle.plans.specs.Plan.{cellsOf, resultsOf}
 use Rattle.requests.specs.Refusal.{logLengthOf}
 use Rattle.requests.specs.WithinLimits.{headerIn}
-use Rattle.requests.proofs.Copied.{copied-beyond}
+use Rattle.intake.proofs.Copied.{copied-beyond}
 use Rattle.engine.specs.Run.{Lent, startOf, logOfRun, cellsLeft}
 use Rattle.engine.specs.Demands.{RanOn, Beyond}
 use Rattle.engine.proofs.Intake.{lent-cells, long}

@@ -9,7 +9,7 @@ use lib.ListN.{getD}
 use Rattle.machine.specs.Effect.{cellAt}
 use Rattle.plans.specs.Plan.{Kind, resultsOf}
 use Rattle.requests.specs.WithinLimits.{headerIn}
-use Rattle.requests.proofs.Copied.{copied-at}
+use Rattle.intake.proofs.Copied.{copied-at}
 use Rattle.engine.specs.Run.{Lent, cellsLeft}
 use Rattle.engine.specs.Demands.{RanOn, verdictTold, resultOf}
 use Rattle.engine.proofs.Ran.{by-verdict}

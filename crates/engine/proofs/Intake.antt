@@ -6,9 +6,9 @@ use Prim.Native.Nat.{ℕ, _<_, _≤_}
 use lib.ListN.{length}
 use Rattle.machine.specs.Effect.{cellAt}
 use Rattle.plans.specs.Plan.{cellsOf}
-use Rattle.requests.specs.Intake.{sourceOf, laid}
 use Rattle.requests.specs.WithinLimits.{headerIn, wordsIn}
-use Rattle.requests.proofs.Laid.{start-long, start-needed, start-rest}
+use Rattle.intake.specs.Intake.{sourceOf, laid}
+use Rattle.intake.proofs.Laid.{start-long, start-needed, start-rest}
 use Rattle.engine.specs.Run.{Lent, startOf}
 
 module _ (request : List ℕ) (lent : Lent) where

@@ -11,7 +11,7 @@ use lib.ListN.{getD}
 use lib.Signed.{_≤ℤ_}
 use Rattle.plans.specs.Limits.{far, mostWeight}
 use Rattle.requests.specs.Word.{weightOf}
-use Rattle.requests.specs.Intake.{orFar}
+use Rattle.intake.specs.Intake.{orFar}
 use Rattle.graph.specs.Walk.{Edge}
 use Rattle.graph.specs.Dijkstra.{tableNetwork}
 use Rattle.engine.specs.Network.{Entered}

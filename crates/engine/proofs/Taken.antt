@@ -13,8 +13,8 @@ use Rattle.plans.specs.Plan.{cellsOf}
 use Rattle.requests.specs.Word.{weightOf}
 use Rattle.requests.specs.WithinLimits.{headerIn, wordsIn, WithinLimits}
 use Rattle.requests.proofs.Sizes.{cells-one, cells-two}
-use Rattle.requests.proofs.Laid.{from-laid, to-laid, weight-laid, entry-laid}
 use Rattle.requests.proofs.WithinLimits.{accepted-in, cells-in, edge-in, entry-in}
+use Rattle.intake.proofs.Laid.{from-laid, to-laid, weight-laid, entry-laid}
 use Rattle.methods.specs.Method1 as Method1
 use Rattle.methods.specs.Method2 as Method2
 use Rattle.engine.specs.Run.{Lent, lengthsOf, startOf, cellsLeft}

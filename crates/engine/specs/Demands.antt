@@ -19,7 +19,7 @@ use Rattle.runner.specs.Runner.{logSize, runnerRefusal, planOutcome, planRounds
 use Rattle.runner.specs.PlanWithin.{PlanWithin, NotAllowedAt, LogShort}
 use Rattle.requests.specs.Refusal.{logLengthOf}
 use Rattle.requests.specs.WithinLimits.{headerIn, wordsIn, FirstBroken, publicLimits, WithinLimits, BrokenAt}
-use Rattle.requests.specs.Intake.{sourceOf, laid}
+use Rattle.intake.specs.Intake.{sourceOf, laid}
 use Rattle.graph.specs.Walk.{NegativeCycle}
 use Rattle.graph.specs.Shortest.{Distances, Parents, Shortest}
 use Rattle.methods.specs.Bank.{Exact}

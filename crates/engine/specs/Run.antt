@@ -6,18 +6,18 @@ use mathlib.Core.Option.{Option, none, some}
 use Prim.Native.Nat.{ℕ, zero, suc, _+_, _<_}
 use lib.IntN.{ℤ}
 use lib.ListN.{length, drop}
+use Rattle.answers.specs.declared.Refusal.{Refusal}
+use Rattle.answers.specs.Told.{Told, refused}
+use Rattle.answers.specs.Buffers.{overwritten}
 use Rattle.fields.specs.Fields.{bitsOf}
 use Rattle.machine.specs.Effect.{isZero, cellAt}
 use Rattle.machine.specs.Log.{cellsAfter, logOf, chargeOf}
 use Rattle.plans.specs.declared.Header.{Header}
 use Rattle.plans.specs.Plan.{planOf, verdictCell, Kind, distances, parents, resultsOf}
-use Rattle.answers.specs.declared.Refusal.{Refusal}
-use Rattle.answers.specs.Told.{Told, refused}
-use Rattle.answers.specs.Buffers.{overwritten}
 use Rattle.requests.specs.declared.Lengths.{Lengths}
 use Rattle.requests.specs.Refusal.{requestRefusal}
-use Rattle.requests.specs.Intake.{copied, startingCells}
 use Rattle.requests.specs.WithinLimits.{headerIn, wordsIn}
+use Rattle.intake.specs.Intake.{copied, startingCells}
 use Rattle.engine.specs.declared.Report.{Report}
 use Rattle.engine.specs.declared.Answer.{Answer}
 use Rattle.engine.specs.declared.Answer.the-variants.{Ran, NegativeCycle, Refused}

@@ -1,5 +1,5 @@
 // The engine: a request run on lent buffers.
-// Rests on requests (checks and intake), planner (the plan) and runner (carrying out).
+// Rests on requests (checks), intake (the starting cells), planner (the plan) and runner (carrying out).
 use answers::Checked;
 use answers::Refusal;
 use planner::VerdictCell;
@@ -16,7 +16,7 @@ ghost use Rattle.machine.specs.Log.{cellsAfter, logOf, sumOf, roundsOf};
 ghost use Rattle.plans.specs.Plan.{Accepted, planOf, cellsOf, verdictCell, published, byKind};
 ghost use Rattle.planner.specs.Figures.{cellIn};
 ghost use Rattle.answers.specs.Buffers.{overwritten};
-ghost use Rattle.requests.specs.Intake.{copied};
+ghost use Rattle.intake.specs.Intake.{copied};
 ghost use Rattle.engine.specs.Run.{verdictAt, openedAt, There, outcome, Met};
 
 // What a run answers besides its buffers.
@@ -105,7 +105,7 @@ pub fn run(
     }
     let h = planner::read_header(request[0]);
     let f = planner::figures_of(h);
-    requests::intake::lay(h, request, cells);
+    intake::lay(h, request, cells);
     let verdict = f.verdict;
     let tally = carry(h, verdict, cells, log);
     let report = Report {

@@ -1,7 +1,7 @@
 -- The table of specs/Rules: the crates' tables, and the rows about outcomes by computing the definitions. Rests on those tables.
 use mathlib.Core.Path.{_≡_, refl, fun-ext}
-use Rattle.fields.specs.Fields.{signedOf, bitsOf}
 use Rattle.answers.proofs.Facts as Answers
+use Rattle.fields.specs.Fields.{signedOf, bitsOf}
 use Rattle.machine.specs.Effect.{bit, wrapAdd, both, pick, perform}
 use Rattle.machine.specs.Word.{packed, packedSet, decodeAt, zerosKept, present, admissibleAt}
 use Rattle.machine.specs.Log.{carry, logged, cellsAfter, logFrom, logOf, withoutPublishedFrom, withoutPublished, roundsOf, sumOf, chargeOf}
@@ -14,15 +14,16 @@ use Rattle.plans.proofs.EachKind.{each-kind}
 use Rattle.plans.proofs.Facts as Plans
 use Rattle.planner.specs.Refusal.{headerRefusal}
 use Rattle.planner.proofs.Facts as Planner
-use Rattle.requests.specs.Word.{weightOf}
-use Rattle.requests.specs.Refusal.{logLengthOf, sizesRefusal, inRange, edgeRefusal, entryRefusal, wordRefusal, wordsRefusal, requestRefusal}
-use Rattle.requests.specs.Intake.{stripsOf, sourceOf, laid, copied, startingCells}
-use Rattle.requests.proofs.Facts as Requests
 use Rattle.runner.specs.Runner.{firstBad, logSize, runnerRefusal, planOutcome}
 use Rattle.runner.proofs.Facts as Runner
+use Rattle.requests.specs.Word.{weightOf}
+use Rattle.requests.specs.Refusal.{logLengthOf, sizesRefusal, inRange, edgeRefusal, entryRefusal, wordRefusal, wordsRefusal, requestRefusal}
+use Rattle.requests.proofs.Facts as Requests
+use Rattle.intake.specs.Intake.{stripsOf, sourceOf, laid, copied, startingCells}
+use Rattle.intake.proofs.Facts as Intake
+use Rattle.facts.specs.Rules.{Rules}
 use Rattle.engine.specs.Run.{Outcome, verdictOf, outcome}
 use Rattle.engine.specs.Network.{sourcesOf}
-use Rattle.facts.specs.Rules.{Rules}
 
 -- Outcomes are the same where their parts are.
 same : (o p : Outcome) → o .answer ≡ p .answer → o .cells ≡ p .cells → o .log ≡ p .log → ((k : Kind) → o .results k ≡ p .results k) → o ≡ p
@@ -37,6 +38,7 @@ rules =
       plans = Plans.facts;
       planner = Planner.facts;
       requests = Requests.facts;
+      intake = Intake.facts;
       runner = Runner.facts;
       one = (refl, refl);
       two = refl;

@@ -15,6 +15,7 @@ use Rattle.plans.specs.Facts as Plans
 use Rattle.planner.specs.Facts as Planner
 use Rattle.planner.specs.Facts.{smallestPlan}
 use Rattle.requests.specs.Facts as Requests
+use Rattle.intake.specs.Facts as Intake
 use Rattle.runner.specs.Facts as Runner
 use Rattle.runner.specs.Runner.{planOutcome}
 use Rattle.engine.specs.Run.{Lent, outcome}
@@ -38,8 +39,10 @@ pub record Rules : Type 0 where
   pub plans : Plans.Facts
   -- "Who caused it": headers, writing a plan
   pub planner : Planner.Facts
-  -- "Who caused it": requests; intake
+  -- "Who caused it": requests
   pub requests : Requests.Facts
+  -- Intake: where a cell's first number comes from
+  pub intake : Intake.Facts
   -- "Who caused it": foreign plans
   pub runner : Runner.Facts
   -- "1: header missing, or method not 1 or 2."

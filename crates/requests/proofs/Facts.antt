@@ -7,11 +7,10 @@ use Rattle.planner.specs.Refusal.{headerRefusal}
 use Rattle.requests.specs.Word.{weightOf}
 use Rattle.requests.specs.Refusal.{logLengthOf, sizesRefusal, inRange, edgeRefusal, entryRefusal, wordRefusal, wordsRefusal, requestRefusal}
 use Rattle.requests.specs.Sizes.{sizesTold}
-use Rattle.requests.specs.Intake.{stripsOf, sourceOf, laid, copied, startingCells}
 use Rattle.requests.specs.Facts.{Facts}
 
 pub facts : Facts
-unfolding signedOf flat cellsOf resultsOf lengthOf headerRefusal weightOf wordCountOf logLengthOf verdictCell sizesRefusal inRange edgeRefusal entryRefusal wordRefusal wordsRefusal requestRefusal sizesTold stripsOf sourceOf laid copied startingCells
+unfolding signedOf flat cellsOf resultsOf lengthOf headerRefusal weightOf wordCountOf logLengthOf verdictCell sizesRefusal inRange edgeRefusal entryRefusal wordRefusal wordsRefusal requestRefusal sizesTold
 facts =
     record {
       vertices = (refl, refl, refl, refl, refl, refl, refl, refl, refl);
@@ -28,8 +27,4 @@ facts =
       faults = (refl, refl, refl, refl, refl, refl, refl, refl);
       entry-faults = refl;
       places = (refl, refl, refl, refl, refl, refl, refl);
-      strips1 = (refl, refl, refl, refl, refl, refl, refl, refl, refl, refl, refl, refl);
-      strips2 = (refl, refl, refl, refl, refl);
-      start1 = refl;
-      start2 = refl;
     }

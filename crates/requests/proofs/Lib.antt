@@ -2,8 +2,6 @@ pub mod Facts
 pub mod Sizes
 pub mod Words
 pub mod Order
-pub mod Copied
-pub mod Laid
 pub mod Agreed
 pub mod Limits
 pub mod WithinLimits

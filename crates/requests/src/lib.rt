@@ -1,7 +1,5 @@
-// Requests: what a header asks for, which refusal a request meets, and intake, which lays its words into cells (a module).
+// Requests: what a header asks for, and which refusal a request meets.
 // Rests on answers, planner, plans and fields.
-pub mod intake;
-
 use answers::Checked;
 use answers::Refusal;
 use planner::Figures;
@@ -100,7 +98,8 @@ fn check_sizes(h: Header, words: usize, lent: Lengths) -> Checked
     Checked::Accepted
 }
 
-fn weight(word: u64) -> i64
+// The weight (price) of a word.
+pub fn weight(word: u64) -> i64
     ensures { λ r. ⌜ r ≡ Word.weightOf word ⌝ }
 {
     fields::signed(fields::field(word, 0, 32), 32)

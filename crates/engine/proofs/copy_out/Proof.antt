@@ -5,7 +5,7 @@ use Prim.Native.Nat.{_+_, _-_}
 use native.Mathlib.Omega.{arith}
 use Rattle.answers.proofs.Filled.{Filling, start}
 use Rattle.machine.specs.Effect.{cellAt}
-use Rattle.requests.proofs.Copied.{ones, one-copied, all-copied}
+use Rattle.intake.proofs.Copied.{ones, one-copied, all-copied}
 use Rattle.engine.proofs.copy_out.Statement.{statement}
 use Rattle.engine.proofs.copy_out.Tie as tie
 

@@ -1,13 +1,13 @@
--- `requests::intake::clear` meets its contract: before cell k, what is left is still to clear. Rests on Copied.
+-- `intake::clear` meets its contract: before cell k, what is left is still to clear. Rests on Copied.
 use borrow.Author.Needs.{needs}
 use Prim.Native.Nat.{_-_}
 use mathlib.Core.Path.{refl}
 use native.Mathlib.Omega.{arith}
 use lib.IntN.{pos}
 use Rattle.answers.proofs.Filled.{Filling, start}
-use Rattle.requests.proofs.Copied.{ones, one-copied, all-copied}
-use Rattle.requests.proofs.intake.clear.Statement.{statement}
-use Rattle.requests.proofs.intake.clear.Tie as tie
+use Rattle.intake.proofs.Copied.{ones, one-copied, all-copied}
+use Rattle.intake.proofs.clear.Statement.{statement}
+use Rattle.intake.proofs.clear.Tie as tie
 
 abbrev Inv-loop : tie.InvT-loop
 Inv-loop count cells₀ k₀ cells k = Filling (ones count (λ k. pos 0)) cells₀ cells k

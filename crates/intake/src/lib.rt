@@ -1,6 +1,5 @@
 // Intake: the request's words laid into cells, by strips that follow from the header.
-// Rests on planner, plans and fields.
-use crate::weight;
+// Rests on requests, plans and fields.
 use plans::Header;
 ghost use mathlib.Core.Path.{_≡_};
 ghost use Prim.Native.Nat.{_≤_};
@@ -8,7 +7,7 @@ ghost use lib.IntN.{pos};
 ghost use lib.ListN.{length, drop};
 ghost use lib.Seq.{sets};
 ghost use Rattle.plans.specs.Plan.{Accepted, wordCountOf, cellsOf};
-ghost use Rattle.requests.specs.Intake.{strip, stripsOf, partOf, copied, startingCells, stripNumbers, StripFits, padded};
+ghost use Rattle.intake.specs.Intake.{strip, stripsOf, partOf, copied, startingCells, stripNumbers, StripFits, padded};
 
 // A field of a word. Entry is method 2's weight, -1 as FAR.
 pub enum Part {
@@ -63,9 +62,9 @@ fn part_of(part: Part, word: u64) -> i64
     match part {
         Part::From => fields::field(word, 56, 8) as i64,
         Part::To => fields::field(word, 48, 8) as i64,
-        Part::Weight => weight(word),
+        Part::Weight => requests::weight(word),
         Part::Entry => {
-            let value = weight(word);
+            let value = requests::weight(word);
             if value == plans::NO_EDGE {
                 plans::FAR
             } else {

@@ -1,11 +1,11 @@
--- `requests::intake::lay` meets its contract: before strip k, those from it on are still to lay. Rests on Laid.
+-- `intake::lay` meets its contract: before strip k, those from it on are still to lay. Rests on Laid.
 use borrow.Author.Needs.{needs}
 use Prim.Native.Nat.{_-_}
 use lib.ListN.{drop}
-use Rattle.requests.specs.Intake.{mostStrips}
-use Rattle.requests.proofs.Laid.{Begun, Laying, start, kept, fits-now, again, all-laid}
-use Rattle.requests.proofs.intake.lay.Statement.{statement}
-use Rattle.requests.proofs.intake.lay.Tie as tie
+use Rattle.intake.specs.Intake.{mostStrips}
+use Rattle.intake.proofs.Laid.{Begun, Laying, start, kept, fits-now, again, all-laid}
+use Rattle.intake.proofs.lay.Statement.{statement}
+use Rattle.intake.proofs.lay.Tie as tie
 
 abbrev Inv-loop : tie.InvT-loop
 Inv-loop request cells₀ strips k₀ cells k = Laying (drop 1 request) strips cells₀ cells k

@@ -1,4 +1,4 @@
--- `requests::intake::part_of` meets its contract, part by part. Rests on the machine's Tested.
+-- `intake::part_of` meets its contract, part by part. Rests on the machine's Tested.
 use borrow.Author.Needs.{needs}
 use mathlib.Core.Path.{_≡_, ap, _∙_}
 use Prim.Native.Nat.{ℕ, _^_, _<_}
@@ -8,8 +8,8 @@ use mir.Syntax.{w64}
 use mir.Val.{toZ}
 use mir.Facts.{toZ-pos, sfits-lit}
 use Rattle.machine.proofs.Tested.{kept, eq-test, ne-test}
-use Rattle.requests.proofs.intake.part_of.Statement.{statement}
-use Rattle.requests.proofs.intake.part_of.Tie as tie
+use Rattle.intake.proofs.part_of.Statement.{statement}
+use Rattle.intake.proofs.part_of.Tie as tie
 
 -- A field of eight bits as a cell.
 eight : (r n : ℕ) → (r ≡ n) × (r < 2 ^ 8) → toZ w64 r ≡ pos n

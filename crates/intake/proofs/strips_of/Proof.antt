@@ -1,11 +1,11 @@
--- `requests::intake::strips_of` meets its contract, method by method. Rests on the planner's sizes.
+-- `intake::strips_of` meets its contract, method by method. Rests on the planner's sizes.
 use borrow.Author.Needs.{needs}
 use native.Mathlib.Omega.{arith}
 use Rattle.plans.proofs.Headers.{edges-small}
 use Rattle.planner.proofs.Figured.{method-two, sizes}
-use Rattle.requests.specs.Intake.{stripsOf}
-use Rattle.requests.proofs.intake.strips_of.Statement.{statement}
-use Rattle.requests.proofs.intake.strips_of.Tie as tie
+use Rattle.intake.specs.Intake.{stripsOf}
+use Rattle.intake.proofs.strips_of.Statement.{statement}
+use Rattle.intake.proofs.strips_of.Tie as tie
 
 returns : tie.Need-returns
 unfolding stripsOf

@@ -1,4 +1,4 @@
--- `requests::intake::lay_strip` meets its contract: before cell i of the strip, the numbers of the cells before it are laid. Rests on Laid.
+-- `intake::lay_strip` meets its contract: before cell i of the strip, the numbers of the cells before it are laid. Rests on Laid.
 use borrow.Author.Needs.{needs}
 use mathlib.Core.Path.{_≡_, refl}
 use Prim.Native.Nat.{_+_, _-_, _<_, _≤_}
@@ -6,11 +6,11 @@ use native.Mathlib.Omega.{arith}
 use lib.ListN.{length, getD, length-drop}
 use lib.Seq.{sets}
 use Rattle.plans.specs.Blocks.{flat}
-use Rattle.requests.specs.Intake.{partOf}
-use Rattle.requests.proofs.Copied.{ones, one-set}
-use Rattle.requests.proofs.Laid.{strip-done}
-use Rattle.requests.proofs.intake.lay_strip.Statement.{statement}
-use Rattle.requests.proofs.intake.lay_strip.Tie as tie
+use Rattle.intake.specs.Intake.{partOf}
+use Rattle.intake.proofs.Copied.{ones, one-set}
+use Rattle.intake.proofs.Laid.{strip-done}
+use Rattle.intake.proofs.lay_strip.Statement.{statement}
+use Rattle.intake.proofs.lay_strip.Tie as tie
 
 abbrev Inv-loop : tie.InvT-loop
 Inv-loop request cells₀ at count first part i₀ cells i =

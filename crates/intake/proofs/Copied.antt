@@ -16,7 +16,7 @@ use Rattle.fields.proofs.Sets.{sets-append}
 use Rattle.machine.proofs.Tested.{back, kept}
 use Rattle.plans.specs.Blocks.{flat}
 use Rattle.plans.proofs.Blocks.{ones-length, ones-at}
-use Rattle.requests.specs.Intake.{copied}
+use Rattle.intake.specs.Intake.{copied}
 
 module _ (count : ℕ) (f : ℕ → ℤ) where
   -- What is written.

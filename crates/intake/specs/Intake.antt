@@ -11,10 +11,10 @@ use Rattle.plans.specs.declared.Header.{Header}
 use Rattle.plans.specs.Limits.{far, noEdge, byMethod}
 use Rattle.plans.specs.Blocks.{flat}
 use Rattle.plans.specs.Plan.{cellsOf}
-use Rattle.requests.specs.declared.intake.Part.{Part}
-use Rattle.requests.specs.declared.intake.Part.the-variants.{From, To, Weight, Entry}
-use Rattle.requests.specs.declared.intake.Strip.{Strip}
 use Rattle.requests.specs.Word.{fromField, toField, weightOf}
+use Rattle.intake.specs.declared.Part.{Part}
+use Rattle.intake.specs.declared.Part.the-variants.{From, To, Weight, Entry}
+use Rattle.intake.specs.declared.Strip.{Strip}
 
 -- ---- what is laid, by method
 

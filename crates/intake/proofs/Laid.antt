@@ -23,12 +23,12 @@ use Rattle.plans.specs.Method1 as Method1
 use Rattle.plans.specs.Method2 as Method2
 use Rattle.plans.specs.Plan.{Accepted, wordCountOf, cellsOf}
 use Rattle.plans.proofs.Headers.{by-method}
-use Rattle.requests.specs.declared.intake.Part.the-variants.{From, To, Weight, Entry}
-use Rattle.requests.specs.declared.intake.Strip.{Strip}
 use Rattle.requests.specs.Word.{fromField, toField, weightOf}
-use Rattle.requests.specs.Intake.{strip, stripsOf, Source, nothing, sourceIn, covers, sourceFrom, sourceOf, orFar, partOf, laid, copied, startingCells, stripNumbers, StripFits, empty, mostStrips, padded}
-use Rattle.requests.proofs.Copied.{ones, copied-long, copied-at, copied-rest, copied-same, set-at, set-beside}
 use Rattle.requests.proofs.Sizes.{cells-one, cells-two}
+use Rattle.intake.specs.declared.Part.the-variants.{From, To, Weight, Entry}
+use Rattle.intake.specs.declared.Strip.{Strip}
+use Rattle.intake.specs.Intake.{strip, stripsOf, Source, nothing, sourceIn, covers, sourceFrom, sourceOf, orFar, partOf, laid, copied, startingCells, stripNumbers, StripFits, empty, mostStrips, padded}
+use Rattle.intake.proofs.Copied.{ones, copied-long, copied-at, copied-rest, copied-same, set-at, set-beside}
 
 -- ---- which source a cell has
 

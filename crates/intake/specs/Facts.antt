@@ -1,0 +1,36 @@
+-- Document 01, "Request words" and the cells of the plans, as facts about literal requests: where a cell's first number comes from, and the
+-- starting cells. Rests on the definitions alone.
+use mathlib.Core.Path.{_≡_}
+use mathlib.Core.List.{[], _∷_, _++_}
+use lib.IntN.{pos, negsuc}
+use lib.ListN.{replicate}
+use Rattle.plans.specs.Plan.{headerOf}
+use Rattle.intake.specs.declared.Part.the-variants.{From, To, Weight, Entry}
+use Rattle.intake.specs.Intake.{field, nothing, sourceOf, startingCells}
+
+pub record Facts : Type 0 where
+  -- "from 0, to m, price 2m": the first and the last cell of each, of one lane and of the most, and the cell after them; and where there is no lane.
+  pub strips1 : (sourceOf (headerOf 0x1000020000100000) 0 ≡ field 0 From)
+      × (sourceOf (headerOf 0x1000020000100000) 1 ≡ field 0 To)
+      × (sourceOf (headerOf 0x1000020000100000) 2 ≡ field 0 Weight)
+      × (sourceOf (headerOf 0x1000020000100000) 3 ≡ nothing)
+      × (sourceOf (headerOf 0x100020000800001F) 0 ≡ field 0 From)
+      × (sourceOf (headerOf 0x100020000800001F) 127 ≡ field 127 From)
+      × (sourceOf (headerOf 0x100020000800001F) 128 ≡ field 0 To)
+      × (sourceOf (headerOf 0x100020000800001F) 255 ≡ field 127 To)
+      × (sourceOf (headerOf 0x100020000800001F) 256 ≡ field 0 Weight)
+      × (sourceOf (headerOf 0x100020000800001F) 383 ≡ field 127 Weight)
+      × (sourceOf (headerOf 0x100020000800001F) 384 ≡ nothing)
+      × (sourceOf (headerOf 0x1000010000000000) 0 ≡ nothing)
+  -- "U at 0", by rows: of one yard and of the most.
+  pub strips2 : (sourceOf (headerOf 0x2000010000000000) 0 ≡ field 0 Entry)
+      × (sourceOf (headerOf 0x2000010000000000) 1 ≡ nothing)
+      × (sourceOf (headerOf 0x200020000000001F) 0 ≡ field 0 Entry)
+      × (sourceOf (headerOf 0x200020000000001F) 1023 ≡ field 1023 Entry)
+      × (sourceOf (headerOf 0x200020000000001F) 1024 ≡ nothing)
+  -- "Intake fills the first 3m; the rest start at 0": lanes 1 to 0 at -5 and 0 to 1 at 1,000,000 laid into 22 lent cells, two more than needed.
+  pub start1 : startingCells (headerOf 0x1000020000200000) (0x01000000FFFFFFFB ∷ 0x00010000000F4240 ∷ []) (replicate 22 (pos 9))
+      ≡ (pos 1 ∷ pos 0 ∷ pos 0 ∷ pos 1 ∷ negsuc 4 ∷ pos 1000000 ∷ []) ++ replicate 14 (pos 0) ++ (pos 9 ∷ pos 9 ∷ [])
+  -- "Intake writes the prices to U, FAR for -1; the rest start at 0."
+  pub start2 : startingCells (headerOf 0x2000020000000000) (0 ∷ 0x00000000FFFFFFFF ∷ 0x00000000000F4240 ∷ 7 ∷ []) (replicate 22 (pos 9))
+      ≡ (pos 0 ∷ pos 274877906944 ∷ pos 1000000 ∷ pos 7 ∷ []) ++ replicate 16 (pos 0) ++ (pos 9 ∷ pos 9 ∷ [])
