@@ -5,6 +5,7 @@ use mathlib.Core.List.{[], _∷_}
 use Prim.Native.Nat.{_*_}
 use lib.ListN.{take, drop}
 use Rattle.fields.specs.Fields.{signedOf, bitsOf}
+use Rattle.text.specs.Text.{leading, decimal, signed, hexadecimal, lineOf}
 use Rattle.machine.specs.Effect.{bit, wrapAdd, both, pick, perform}
 use Rattle.machine.specs.Word.{packed, packedSet, decodeAt, zerosKept, present, admissibleAt}
 use Rattle.machine.specs.Log.{carry, logged, cellsAfter, logFrom, logOf, withoutPublishedFrom, withoutPublished, roundsOf, sumOf, chargeOf}
@@ -17,11 +18,10 @@ use Rattle.planner.specs.Refusal.{headerRefusal}
 use Rattle.requests.specs.Word.{weightOf}
 use Rattle.requests.specs.Refusal.{logLengthOf, sizesRefusal, inRange, edgeRefusal, entryRefusal, wordRefusal, wordsRefusal, requestRefusal}
 use Rattle.intake.specs.Intake.{stripsOf, sourceOf, laid, copied, startingCells}
-use Rattle.console.specs.Bytes.{joinedFrom, wholeWords, handedOver, requestOf}
-use Rattle.console.specs.Desk.{deskText, hostText}
-use Rattle.text.specs.Text.{leading, decimal, signed, hexadecimal, lineOf}
 use Rattle.engine.specs.Run.{verdictOf, outcome}
 use Rattle.lines.specs.Texts.{textOf, logText}
+use Rattle.console.specs.Bytes.{joinedFrom, wholeWords, handedOver, requestOf}
+use Rattle.console.specs.Desk.{deskText, hostText}
 
 pub record Example : Type 0 where
   -- Document 01's printed request: three lines. `1 2 1 0 112 0`, `0 0 -`, `1 -5 0`

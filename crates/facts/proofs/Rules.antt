@@ -21,9 +21,9 @@ use Rattle.requests.specs.Refusal.{logLengthOf, sizesRefusal, inRange, edgeRefu
 use Rattle.requests.proofs.Facts as Requests
 use Rattle.intake.specs.Intake.{stripsOf, sourceOf, laid, copied, startingCells}
 use Rattle.intake.proofs.Facts as Intake
-use Rattle.facts.specs.Rules.{Rules}
 use Rattle.engine.specs.Run.{Outcome, verdictOf, outcome}
 use Rattle.engine.specs.Network.{sourcesOf}
+use Rattle.facts.specs.Rules.{Rules}
 
 -- Outcomes are the same where their parts are.
 same : (o p : Outcome) → o .answer ≡ p .answer → o .cells ≡ p .cells → o .log ≡ p .log → ((k : Kind) → o .results k ≡ p .results k) → o ≡ p

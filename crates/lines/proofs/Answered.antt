@@ -1,24 +1,23 @@
 -- From what a run answers and leaves to the text of its outcome.
--- Rests on Fits and requests' Numbers.
+-- Rests on Fits, answers' Told and requests' Numbers.
 use mathlib.Core.Path.{_≡_, refl, sym, ap, _∙_}
 use mathlib.Core.List.{List}
-use mathlib.Core.Option.{Option, none, some}
 use Prim.Native.Nat.{ℕ, _≤_}
 use lib.IntN.{ℤ}
 use lib.ListN.{length, getD}
 use Rattle.answers.specs.declared.Refusal.{Refusal}
 use Rattle.answers.specs.Refusal.{placeOf, placeShown}
 use Rattle.answers.specs.Told.{refused, Apart}
-use Rattle.answers.proofs.Meets.{Meets}
+use Rattle.answers.proofs.Told.{met-by}
 use Rattle.plans.specs.declared.Header.{Header}
 use Rattle.plans.specs.Plan.{distances, parents, byKind}
 use Rattle.requests.specs.WithinLimits.{headerIn}
 use Rattle.requests.proofs.Numbers.{request-apart}
 use Rattle.engine.specs.declared.Answer.{Answer}
 use Rattle.engine.specs.declared.Answer.the-variants.{Ran, NegativeCycle, Refused}
-use Rattle.lines.specs.Texts.{refusalText, toldText, textOf, toldLog, logText, Distinct}
 use Rattle.engine.specs.Run.{toldByRun, Lent, refusalOf, verdictOfRun, outcomeBy, outcome, Met}
 use Rattle.engine.proofs.Refused.{ran-values}
+use Rattle.lines.specs.Texts.{refusalText, toldText, textOf, toldLog, logText, Distinct}
 use Rattle.lines.proofs.Fits as Fits
 use Rattle.lines.proofs.Fits.{log-fits}
 
@@ -30,17 +29,16 @@ pub refused-log : (r : Refusal) → Apart r → (log : List ℕ)
     → refusalText (r .number) (placeShown (placeOf r)) ≡ toldLog (refused r) log
 refused-log r a log = simp (a .0, a .1)
 
--- An answer that tells as the outcome does is told from a run where it is a refusal: it tells no values.
-module _ (request : List ℕ) (lent : Lent) (r : Refusal) where
-  told-apart : (met : Option Refusal) → Meets Apart met → refused r ≡ outcomeBy met request lent .answer → Apart r
-  told-apart none a e = absurd (ran-values request lent r (verdictOfRun request lent) e)
-  told-apart (some q) a e = rw (ap (λ t. t .number) e) (a .holds q refl)
-
+-- An answer that tells as the outcome does is told from a run where it is a refusal.
 told-distinct : (request : List ℕ) (lent : Lent) (a : Answer) → toldByRun a ≡ outcome request lent .answer → Distinct a
 unfolding outcome
 told-distinct request lent (Ran r) e = tt
 told-distinct request lent (NegativeCycle r) e = tt
-told-distinct request lent (Refused r) e = told-apart request lent r (refusalOf request lent) (request-apart request _) e
+told-distinct request lent (Refused r) e =
+    let (q, is, same) =
+    met-by (λ met. outcomeBy met request lent .answer) (λ q. refl) r (ran-values request lent r (verdictOfRun request lent))
+    (refusalOf request lent) (sym e) in
+    rw (sym (ap (λ t. t .number) same)) (request-apart request _ .holds q is)
 
 module _ (request : List ℕ) (lent : Lent) (a : Answer) (cells : List ℤ) (log : List ℕ) (ds ps : List ℤ)
     (m : Met (outcome request lent) a cells log (byKind ds ps)) where

@@ -1,6 +1,6 @@
 -- A foreign plan is refused by 9 exactly at its first word that is not allowed, and by 7 exactly where every word is allowed and the log is too
 -- short. Rests on PlanWithin and answers' Told.
-use mathlib.Core.Path.{_≡_, refl, sym, ap, _∙_}
+use mathlib.Core.Path.{_≡_, refl, sym, ap}
 use mathlib.Core.Logic.{_↔_, _⊎_, inl, inr, Iff·trans}
 use mathlib.Core.Bool.{Bool, true, false, true≢false}
 use mathlib.Core.List.{List, [], _∷_}
@@ -15,7 +15,7 @@ use Rattle.answers.specs.declared.Refusal.{Refusal}
 use Rattle.answers.specs.Refusal.{plain, placed, Log, Operation, need, orElse}
 use Rattle.answers.specs.Told.{refused}
 use Rattle.answers.proofs.Meets.{Meets, some-meets, first-meets}
-use Rattle.answers.proofs.Told.{Formed, same-told}
+use Rattle.answers.proofs.Told.{Formed, met-exactly}
 use Rattle.runner.specs.Runner.{firstBad, logSize, operationAt, runnerRefusal, planOutcomeBy, planOutcome}
 use Rattle.runner.specs.PlanWithin.{PlanWithin, NotAllowedAt, LogShort}
 use Rattle.runner.proofs.PlanWithin.{allowed-from, fine-from, bad-from, not-allowed-at}
@@ -74,19 +74,17 @@ module _ (plan : List ℕ) (count room : ℕ) where
 -- ---- what is told
 
 module _ (plan : List ℕ) (cells : List ℤ) (log : List ℕ) where
-  told-by : (r : Refusal) → Formed r → (met : Option Refusal) → runnerRefusal plan (length cells) (length log) ≡ met
-      → planOutcomeBy met plan cells log .answer ≡ refused r → runnerRefusal plan (length cells) (length log) ≡ some r
-  unfolding runnerRefusal
-  told-by r formed none is e = let no : ⊥ = omega (arith, ap (λ t. length (t .values)) e) in absurd no
-  told-by r formed (some q) is e =
-      let found = formed-of (leb (logSize plan) (length log)) (firstBad (length cells) 1 (drop 1 plan)) in
-      is ∙ ap some (same-told q r (found .holds q is) formed e)
-
   told : (r : Refusal) → Formed r
       → (planOutcome plan cells log ≡ record { answer = refused r; cells = cells; log = log })
       ↔ (runnerRefusal plan (length cells) (length log) ≡ some r)
-  unfolding planOutcome
-  told r formed = (λ e. told-by r formed _ refl (ap (λ o. o .answer) e), λ e. rw e)
+  unfolding planOutcome runnerRefusal
+  told r formed = (
+    λ e.
+        met-exactly (λ met. planOutcomeBy met plan cells log .answer) (λ q. refl) r (λ e. omega (arith, ap (λ t. length (t .values)) e)) formed
+        (runnerRefusal plan (length cells) (length log))
+        (formed-of (leb (logSize plan) (length log)) (firstBad (length cells) 1 (drop 1 plan))) (ap (λ o. o .answer) e),
+    λ e. rw e,
+  )
 
   pub nine-exactly : (place : ℕ)
       → (planOutcome plan cells log ≡ record { answer = refused (placed 9 place); cells = cells; log = log })
