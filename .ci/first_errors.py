@@ -7,12 +7,14 @@ that are gone, or it does not even parse. Such an edit is named, and the exit st
 
 import re
 import sys
+from itertools import takewhile
 from pathlib import Path
 
 # What the first error says where only the code's shape, a name or the syntax is at fault.
 SHAPES = [
     r"has no `(Need|InvT|MeasureT|At|In|After|Then|Else)-",
     r"has no field",
+    r"this pattern needs a function",
     r"expected type `tie\.Need-[^`]*`, but this has type `tie\.Need-",
     r"is not in scope",
     r"that can be named from here",
@@ -25,12 +27,15 @@ UNPROVED = r"`search` does not close"
 
 
 def first_error(log):
-    """The first error of a log or, if it has none, the first need that the search leaves; None if there is neither."""
+    """The first error of a log or, if it has none, the first need that the search leaves; None if there is neither.
+
+    A message goes on over the indented lines after its first.
+    """
     lines = log.read_text(errors="replace").splitlines()
     for pattern in (r"\berror: ", UNPROVED):
-        for line in lines:
+        for number, line in enumerate(lines):
             if re.search(pattern, line):
-                return line
+                return "\n".join([line, *takewhile(lambda later: later.startswith(" "), lines[number + 1 :])])
     return None
 
 

@@ -39,9 +39,10 @@ it says. [k] is cell k.
   no instruction: op 9 is over 7
 
 A field that should be zero and is not is named at the end of its line. How
-many cells there are is not known here, so addresses are not tested. The last
-line is `rounds N`, the sum of the rounds column over the words carried out: a
-word that is no instruction would end the run, so only those before it count."""
+many cells there are is not known here, so addresses are not tested. After the
+words comes a line `tallies`, how many words of each op are carried out, and
+then `rounds N`, each tally times the rounds of its op, added up. A word that
+is no instruction would end the run, so only those before it count."""
 
 COMPARISON_FORMAT = """\
 `compare` prints `equal, N words`, exit status 0, or the first place at which A
@@ -76,6 +77,10 @@ class Operation(NamedTuple):
     rounds: int
     form: str
     zeros: str = ""
+
+    @property
+    def name(self):
+        return self.form.split()[0]
 
 
 OPERATIONS = (
@@ -144,23 +149,30 @@ def word_text(word, role):
     return f"{word:016X}  {meaning}"
 
 
-def rounds_of(words, is_plan):
-    """The plain sum of the rounds column over the words carried out, which end before a word that is no instruction."""
-    total = 0
+def tallies_of(words, is_plan):
+    """How many words of each op are carried out; they end before a word that is no instruction."""
+    tallies = [0] * len(OPERATIONS)
     for word, role in zip(words, roles(words, is_plan)):
         if role == OPERATION:
             op = op_of(word)
             if op >= len(OPERATIONS):
                 break
-            total += OPERATIONS[op].rounds
-    return total
+            tallies[op] += 1
+    return tallies
+
+
+def rounds_of(tallies):
+    """Each tally times the rounds of its op, added up."""
+    return sum(tally * operation.rounds for tally, operation in zip(tallies, OPERATIONS))
 
 
 def print_listing(words, is_plan):
-    """Prints a line for each word and then the rounds."""
+    """Prints a line for each word, and then the tallies and the rounds."""
     for place, (word, role) in enumerate(zip(words, roles(words, is_plan))):
         print(f"{place:7}  {word_text(word, role)}")
-    print(f"rounds {rounds_of(words, is_plan)}")
+    tallies = tallies_of(words, is_plan)
+    print("tallies", *(f"{operation.name} {tally}" for operation, tally in zip(OPERATIONS, tallies)))
+    print(f"rounds {rounds_of(tallies)}")
 
 
 def first_difference(first, second):

@@ -56,9 +56,26 @@ fn compare(request: &[u64], lent: Buffers) -> (Outcome, Buffers) {
     );
     assert!(ours == theirs, "buffers differ: {request:x?}");
     if matches!(outcome.number, 0 | 12) {
+        assert_eq!(outcome.values[0], rounds_by_tallies(&ours.log, &outcome));
         judge(request, &outcome, &ours);
     }
     (outcome, ours)
+}
+
+/// The rounds as a host works them from the log that was left: its operations
+/// tallied by op, multiplied last.
+fn rounds_by_tallies(log: &[u64], outcome: &Outcome) -> u64 {
+    let mut tallies = [0; 8];
+    let mut words = log[..outcome.values[1] as usize].iter().skip(1);
+    while let Some(word) = words.next() {
+        let op = (word >> 60) as usize;
+        tallies[op] += 1;
+        if op == 7 {
+            words.next();
+        }
+    }
+    let [set, _copy, _add, less, equal, both, moveif, open] = tallies;
+    6 * (less + equal) + set + both + moveif + open
 }
 
 /// Judges verdict, distances and parents by the graph alone.
@@ -280,6 +297,9 @@ fn compare_plan(plan: &[u64], cells: Vec<i64>, log: Vec<u64>) -> Outcome {
     assert_eq!(outcome, expected);
     assert!(our_cells == their_cells, "cells differ");
     assert!(our_log == their_log, "logs differ");
+    if outcome.number == 0 {
+        assert_eq!(outcome.values[0], rounds_by_tallies(&our_log, &outcome));
+    }
     outcome
 }
 

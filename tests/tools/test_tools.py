@@ -416,7 +416,7 @@ class Listing(WithFolder):
 
     def meanings(self, words, *options):
         """The listing of an edge request's header and these words, without the header's line, places and hexadecimal digits."""
-        return [line[27:] for line in self.listing(EDGE_1_PLAN[:1] + words, *options)[1:-1]]
+        return [line[27:] for line in self.listing(EDGE_1_PLAN[:1] + words, *options)[1:-2]]
 
     def test_edge_1_log(self):
         expected = [
@@ -428,13 +428,14 @@ class Listing(WithFolder):
             "      5  00000A0000000000  SET [10] <- 0",
             "      6  7000000000A00000  OPEN [10]",
             "      7  0000000000000000  published 0",
+            "tallies SET 5 COPY 0 ADD 0 LESS 0 EQUAL 0 BOTH 0 MOVEIF 0 OPEN 1",
             "rounds 6",
         ]
         self.assertEqual(self.listing(EDGE_1_LOG), expected)
 
     def test_edge_1_plan(self):
         self.assertEqual(plan_of_method_1(1, 0, 0), EDGE_1_PLAN)
-        self.assertEqual(self.listing(EDGE_1_PLAN, "--plan"), self.listing(EDGE_1_LOG)[:7] + ["rounds 6"])
+        self.assertEqual(self.listing(EDGE_1_PLAN, "--plan"), self.listing(EDGE_1_LOG)[:7] + self.listing(EDGE_1_LOG)[-2:])
 
     def test_every_operation(self):
         words = [word(op, 1, 2, 3) for op in (SET, ADD, LESS, EQUAL, BOTH, MOVEIF)]
@@ -451,7 +452,13 @@ class Listing(WithFolder):
             "published -5",
         ]
         self.assertEqual(self.meanings(words), expected)
-        self.assertEqual(self.listing(EDGE_1_PLAN[:1] + words)[-1], "rounds 16")
+        tallies = "tallies SET 1 COPY 1 ADD 1 LESS 1 EQUAL 1 BOTH 1 MOVEIF 1 OPEN 1"
+        self.assertEqual(self.listing(EDGE_1_PLAN[:1] + words)[-2:], [tallies, "rounds 16"])
+
+    def test_each_op_has_its_tally(self):
+        words = [word(op) for op in range(OPEN) for _ in range(op)] + [word(OPEN), word(SET)] * 7
+        tallies = "tallies SET 0 COPY 1 ADD 2 LESS 3 EQUAL 4 BOTH 5 MOVEIF 6 OPEN 7"
+        self.assertEqual(self.listing(EDGE_1_PLAN[:1] + words)[-2:], [tallies, "rounds 60"])
 
     def test_edge_10_least_number_of_set(self):
         self.assertEqual(self.meanings([word(SET, 0, 524_288, 0)]), ["SET [0] <- -549755813888"])
@@ -476,7 +483,8 @@ class Listing(WithFolder):
         self.assertEqual(self.meanings(words), expected)
 
     def test_header_alone(self):
-        self.assertEqual(self.listing(EDGE_1_LOG[:1]), [self.listing(EDGE_1_LOG)[0], "rounds 0"])
+        tallies = "tallies SET 0 COPY 0 ADD 0 LESS 0 EQUAL 0 BOTH 0 MOVEIF 0 OPEN 0"
+        self.assertEqual(self.listing(EDGE_1_LOG[:1]), [self.listing(EDGE_1_LOG)[0], tallies, "rounds 0"])
 
     def test_rounds_and_lengths_of_document_01(self):
         figures = [
@@ -487,11 +495,11 @@ class Listing(WithFolder):
         ]
         for plan, length, rounds in figures:
             lines = self.listing(plan, "--plan")
-            self.assertEqual((len(lines) - 1, lines[-1]), (length, f"rounds {rounds}"))
+            self.assertEqual((len(lines) - 2, lines[-1]), (length, f"rounds {rounds}"))
 
     def test_largest_rounds_of_method_2(self):
         plan = plan_of_method_2(32, 0)
-        self.assertEqual((len(plan), log.rounds_of(plan, is_plan=True)), (44_227, 57_506))
+        self.assertEqual((len(plan), log.rounds_of(log.tallies_of(plan, is_plan=True))), (44_227, 57_506))
 
 
 class Comparison(WithFolder):
@@ -579,6 +587,7 @@ class LogMessages(WithFolder):
         expected = [
             "      0  3030303230303032  header method=3 yards=12336 lanes=205571 source=12338",
             "      1  3030303030303041  LESS [12336] <- [197379] < [12353]",
+            "tallies SET 0 COPY 0 ADD 0 LESS 1 EQUAL 0 BOTH 0 MOVEIF 0 OPEN 0",
             "rounds 6",
         ]
         self.assertEqual(run(log, "list", "--bytes", path), (0, "\n".join(expected) + "\n", ""))

@@ -8,14 +8,12 @@ use native.Mathlib.Omega.{arith}
 use lib.IntN.{ℤ}
 use lib.ListN.{length, drop}
 use Rattle.answers.specs.declared.Refusal.{Refusal}
-use Rattle.answers.specs.Buffers.{overwritten}
 use Rattle.machine.specs.Effect.{cellAt}
-use Rattle.machine.specs.Log.{cellsAfter, logOf, sumOf, roundsOf}
 use Rattle.machine.proofs.Carried.{length-after}
-use Rattle.machine.proofs.Replayed.{charge-log}
 use Rattle.plans.specs.declared.Header.{Header}
 use Rattle.plans.specs.Plan.{Accepted, planOf, wordCountOf, cellsOf, Kind, resultsOf}
 use Rattle.plans.proofs.Addresses.{results-inside}
+use Rattle.runner.specs.declared.PlanReport.{PlanReport}
 use Rattle.planner.specs.declared.Figures.{Figures}
 use Rattle.planner.specs.Figures.{cellIn, spanIn, Figured}
 use Rattle.requests.specs.Refusal.{roomFor}
@@ -25,6 +23,7 @@ use Rattle.intake.specs.Intake.{copied, startingCells}
 use Rattle.intake.proofs.Laid.{start-long}
 use Rattle.engine.specs.declared.Answer.the-variants.{Ran, NegativeCycle, Refused}
 use Rattle.engine.specs.Run.{Lent, lengthsOf, refusalOf, verdictAt, There, verdictOf, outcome, Met}
+use Rattle.engine.specs.Carry.{Ready, Carried}
 use Rattle.engine.proofs.Logs.{log-length}
 use Rattle.engine.proofs.Ran.{inside, ended, verdict-of}
 use Rattle.engine.proofs.Placed.{verdict-below}
@@ -63,19 +62,19 @@ module _ {request : List ℕ} {lent : Lent} {h : Header} (p : Passed request len
     first-long : length first ≡ length (lent .cells)
     first-long = ap length laid ∙ start-long h (wordsIn request) (lent .cells) cells-enough
 
-    pub can-carry : Accepted h × (cellsOf h ≤ length first) × (length (logOf (planOf h) first) ≤ length (lent .log))
-    can-carry =
+    pub ready : Ready h first (lent .log)
+    ready =
         let l = rw (sym (p .is)) at (log-in _ _ within) in
-        (allowed, omega (arith, first-long, cells-enough), omega (arith, log-length h allowed first, l))
+        record {
+          allowed = allowed;
+          cells-enough = omega (arith, first-long, cells-enough);
+          log-enough = omega (arith, log-length h allowed first, l);
+        }
 
-    -- What `carry` says of its tally, the cells and the log.
-    module _ {rounds size : ℕ} {left : List ℤ} {log : List ℕ}
-        (done : (rounds ≡ sumOf roundsOf (drop 1 (planOf h)))
-        × (size ≡ length (logOf (planOf h) first))
-        × (left ≡ cellsAfter (drop 1 (planOf h)) first)
-        × (log ≡ overwritten (logOf (planOf h) first) (lent .log))) where
+    -- What `carry` says of its report, the cells and the log.
+    module _ {report : PlanReport} {left : List ℤ} {log : List ℕ} (done : Carried h first (lent .log) report left log) where
       left-enough : cellsOf h ≤ length left
-      left-enough = omega (arith, ap length (done .2), length-after (drop 1 (planOf h)) first, first-long, cells-enough)
+      left-enough = omega (arith, ap length (done .cells-left), length-after (drop 1 (planOf h)) first, first-long, cells-enough)
 
       -- f are the figures, as they are found.
       module _ {f : Figures} (figured : Figured h f) where
@@ -92,29 +91,31 @@ module _ {request : List ℕ} {lent : Lent} {h : Header} (p : Passed request len
 
           -- With a negative cycle.
           pub cycled : verdict ≡ 1
-              → Met (outcome request lent) (NegativeCycle (record { rounds = rounds; «log_length» = size; verdict = verdict })) left log
+              → Met (outcome request lent)
+              (NegativeCycle (record { rounds = report .rounds; «log_length» = report .length; verdict = verdict })) left log
               (lent .results)
           cycled one =
-              let e = rw (done .2, laid, p .is) at (sym reads ∙ one) in
+              let e = rw (done .cells-left, laid, p .is) at (sym reads ∙ one) in
               rw (ended request lent (sym (p .fine)) 1 e)
               (record {
-                answers = rw (one, done .0, done .1, charge-log, laid, p .is);
-                cells-left = rw (done .2, laid, p .is);
-                log-left = rw (done .3, laid, p .is);
+                answers = rw (one, done .charged, done .length-is, laid, p .is);
+                cells-left = rw (done .cells-left, laid, p .is);
+                log-left = rw (done .log-left, laid, p .is);
                 results-left = λ k. refl;
               })
 
           -- Without one. given is what is copied.
           pub ran : (verdict ≡ 1 → ⊥) → {given : Kind → List ℤ}
               → ((k : Kind) → given k ≡ copied (spanIn f k .count) (λ i. cellAt left (spanIn f k .first + i)) (lent .results k))
-              → Met (outcome request lent) (Ran (record { rounds = rounds; «log_length» = size; verdict = verdict })) left log given
+              → Met (outcome request lent)
+              (Ran (record { rounds = report .rounds; «log_length» = report .length; verdict = verdict })) left log given
           ran not-one is =
               let zero : verdict ≡ 0 = ⊎-elim (λ e. reads ∙ e) (λ e. absurd (not-one (reads ∙ e))) (verdict-of h left) in
-              let e = rw (done .2, laid, p .is) at (sym reads ∙ zero) in
+              let e = rw (done .cells-left, laid, p .is) at (sym reads ∙ zero) in
               rw (ended request lent (sym (p .fine)) 0 e)
               (record {
-                answers = rw (zero, done .0, done .1, charge-log, laid, p .is);
-                cells-left = rw (done .2, laid, p .is);
-                log-left = rw (done .3, laid, p .is);
-                results-left = λ k. rw (is k, figured .results-are k, done .2, laid, p .is);
+                answers = rw (zero, done .charged, done .length-is, laid, p .is);
+                cells-left = rw (done .cells-left, laid, p .is);
+                log-left = rw (done .log-left, laid, p .is);
+                results-left = λ k. rw (is k, figured .results-are k, done .cells-left, laid, p .is);
               })

@@ -1,16 +1,20 @@
--- A plan written to the log, carried out from there and its verdict published: what `carry` leaves. Rests on Logs.
+-- A plan written to the log, carried out from there and its verdict published: what `carry` leaves. Rests on Logs and
+-- charge's Weighed.
 use mathlib.Core.Path.{_≡_, sym, ap, _∙_}
 use mathlib.Core.List.{List, _++_}
-use Prim.Native.Nat.{ℕ, _+_, _≤_}
+use Prim.Native.Nat.{ℕ, _+_, _*_, _^_, _<_, _≤_}
 use native.Mathlib.Nat.{zero-add}
 use native.Mathlib.Omega.{arith}
 use lib.IntN.{ℤ}
 use lib.ListN.{length, take, drop, length-append, length-drop}
 use lib.Seq.{sets, take-append-seam, length-take-le}
-use Rattle.machine.specs.Log.{Admitted, cellsAfter, logOf, sumOf, roundsOf}
+use Rattle.machine.specs.Log.{Admitted, cellsAfter, logOf, rounds}
 use Rattle.machine.proofs.Carried.{length-after}
+use Rattle.machine.proofs.Replayed.{charge-log}
+use Rattle.charge.specs.Tally.{talliesOf, weighed}
+use Rattle.charge.proofs.Weighed.{weighed-tallies, fits}
 use Rattle.plans.specs.declared.Header.{Header}
-use Rattle.plans.specs.Plan.{Accepted, planOf, cellsOf, lengthOf, verdictCell, published}
+use Rattle.plans.specs.Plan.{planOf, lengthOf, verdictCell, published}
 use Rattle.plans.proofs.Addresses.{admitted-plan}
 use Rattle.plans.proofs.Figures.{length-plan}
 use Rattle.answers.proofs.Filled.{from-start}
@@ -18,6 +22,7 @@ use Rattle.answers.specs.Buffers.{overwritten}
 use Rattle.requests.specs.Refusal.{logLengthOf}
 use Rattle.fields.proofs.Sets.{sets-append}
 use Rattle.engine.specs.Run.{openedAt, There}
+use Rattle.engine.specs.Carry.{Ready, Carried}
 use Rattle.engine.proofs.Placed.{verdict-below}
 use Rattle.engine.proofs.Logs.{log-plan, log-length}
 
@@ -31,36 +36,44 @@ further xs ys buffer h =
     ∙ sym (sets-append buffer 0 xs ys)
     ∙ from-start (xs ++ ys) buffer (omega arith)
 
-module _ (h : Header) (a : Accepted h) (cells : List ℤ) (log : List ℕ) (cells-enough : cellsOf h ≤ length cells)
-    (room : length (logOf (planOf h) cells) ≤ length log) where
+module _ {h : Header} {cells : List ℤ} {log : List ℕ} (r : Ready h cells log) where
   pub plan-room : lengthOf h ≤ length log
   unfolding logLengthOf
-  plan-room = omega (arith, log-length h a cells)
+  plan-room = omega (arith, log-length h (r .allowed) cells)
+
+  plan-long : length (planOf h) ≡ lengthOf h
+  plan-long = length-plan h (r .allowed)
 
   -- What `fill` leaves in the log.
-  module _ (size : ℕ) (written : List ℕ) (done : (size ≡ lengthOf h) × (written ≡ overwritten (planOf h) log)) where
+  module _ {size : ℕ} {written : List ℕ} (done : (size ≡ lengthOf h) × (written ≡ overwritten (planOf h) log)) where
     pub inside : size ≤ length written
-    inside =
-        omega (arith, ap length (done .1), length-append (planOf h) (drop (length (planOf h)) log), length-plan h a)
+    inside = omega (arith, ap length (done .1), length-append (planOf h) (drop (length (planOf h)) log), plan-long)
 
     pub words-long : size ≡ length (take size written)
     words-long = sym (length-take-le size written inside)
 
     plan-there : take size written ≡ planOf h
-    plan-there =
-        rw (done .0, done .1, ← length-plan h a) (take-append-seam (planOf h) (drop (length (planOf h)) log))
+    plan-there = rw (done .0, done .1, ← plan-long) (take-append-seam (planOf h) (drop (length (planOf h)) log))
 
     pub words-admitted : Admitted (length cells) (drop 1 (take size written))
-    words-admitted = rw plan-there (admitted-plan h a (length cells) cells-enough)
+    words-admitted = rw plan-there (admitted-plan h (r .allowed) (length cells) (r .cells-enough))
 
     -- What `carry_words` answers and leaves.
-    module _ (rounds : ℕ) (left : List ℤ)
-        (carried : (rounds ≡ sumOf roundsOf (drop 1 (take size written))) × (left ≡ cellsAfter (drop 1 (take size written)) cells)) where
+    module _ {tallies : List ℕ} {left : List ℤ}
+        (carried : (tallies ≡ talliesOf (drop 1 (take size written))) × (left ≡ cellsAfter (drop 1 (take size written)) cells)) where
+      tallied : tallies ≡ talliesOf (drop 1 (planOf h))
+      tallied = carried .0 ∙ rw plan-there
+
       left-is : left ≡ cellsAfter (drop 1 (planOf h)) cells
       left-is = carried .1 ∙ rw plan-there
 
+      -- A lent log is short enough for its charge.
+      pub rounds-fit : 6 * length log < 2 ^ 64 → weighed tallies rounds < 2 ^ 64
+      rounds-fit short = fits (drop 1 (planOf h)) tallies tallied (omega (arith, plan-room, plan-long, length-drop 1 (planOf h)))
+
       pub verdict-there : There (verdictCell h) (length left)
-      verdict-there = verdict-below h a (length left) (omega (arith, ap length left-is, length-after (drop 1 (planOf h)) cells))
+      verdict-there =
+          verdict-below h (r .allowed) (length left) (omega (arith, ap length left-is, length-after (drop 1 (planOf h)) cells))
 
       pub publish-room : size + length (published (verdictCell h) 0) ≤ length written
       unfolding logLengthOf
@@ -71,24 +84,23 @@ module _ (h : Header) (a : Accepted h) (cells : List ℤ) (log : List ℕ) (cell
             ap length (done .1),
             length-append (planOf h) (drop (length (planOf h)) log),
             length-drop (length (planOf h)) log,
-            length-plan h a,
-            log-length h a cells,
+            plan-long,
+            log-length h (r .allowed) cells,
           )
 
-      -- What `publish` answers and leaves.
-      pub logged : (end : ℕ) (after : List ℕ)
+      -- What `publish` and `rounds_of` answer, and what is left.
+      pub ended : {end : ℕ} {after : List ℕ} {sum : ℕ}
           → (end ≡ size + length (openedAt (verdictCell h) left)) × (after ≡ sets written size (openedAt (verdictCell h) left))
-          → (rounds ≡ sumOf roundsOf (drop 1 (planOf h)))
-          × (end ≡ length (logOf (planOf h) cells))
-          × (left ≡ cellsAfter (drop 1 (planOf h)) cells)
-          × (after ≡ overwritten (logOf (planOf h) cells) log)
-      logged end after p =
+          → sum ≡ weighed tallies rounds
+          → Carried h cells log (record { rounds = sum; length = end }) left after
+      ended {end} {after} {sum} p weighs =
           let word = openedAt (verdictCell h) left in
-          let whole : logOf (planOf h) cells ≡ planOf h ++ word = log-plan h a cells ∙ rw left-is in
+          let whole : logOf (planOf h) cells ≡ planOf h ++ word = log-plan h (r .allowed) cells ∙ rw left-is in
           let long = ap length whole ∙ length-append (planOf h) word in
-          let z : size ≡ length (planOf h) = done .0 ∙ sym (length-plan h a) in (
-            carried .0 ∙ rw plan-there,
-            omega (arith, p .0, long),
-            left-is,
-            p .1 ∙ rw (done .1, z, whole) (further (planOf h) word log (omega arith)),
-          )
+          let z : size ≡ length (planOf h) = done .0 ∙ sym plan-long in
+          record {
+            charged = weighs ∙ rw (tallied, charge-log (planOf h) cells) (weighed-tallies (drop 1 (planOf h)));
+            length-is = omega (arith, p .0, long);
+            cells-left = left-is;
+            log-left = p .1 ∙ rw (done .1, z, whole) (further (planOf h) word log (omega arith));
+          }

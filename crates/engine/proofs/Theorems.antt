@@ -10,8 +10,10 @@ use lib.Arith.{digits-lt}
 use lib.IntN.{ℤ}
 use lib.ListN.{length, getD}
 use Rattle.answers.specs.Refusal.{plain, placed}
+use Rattle.charge.proofs.Weighed.{charge-tallied}
 use Rattle.plans.specs.Limits.{far}
 use Rattle.plans.specs.Plan.{Kind, distances, parents}
+use Rattle.runner.specs.Runner.{planLog}
 use Rattle.runner.proofs.PlanWithin.{within-plan}
 use Rattle.runner.proofs.Refused.{nine-exactly, seven-exactly, settled-plan}
 use Rattle.runner.proofs.Foreign.{refused-plan, told-plan, length-told, log-beyond, cells-long, cells-spared, replayed-plan, charge-plan, words-plan}
@@ -21,14 +23,14 @@ use Rattle.requests.proofs.Refused.{public-refused, word-refused, settled}
 use Rattle.graph.proofs.Parents.{distances-carried, parents-carried}
 use Rattle.engine.specs.Run.{Lent, outcome}
 use Rattle.engine.specs.Network.{networkOf, namingOf, sourcesOf}
-use Rattle.engine.specs.Demands.{RanOn, resultOf, Demand1, Demand2, OneSource, Demand3a, Demand3, DemandPlan}
+use Rattle.engine.specs.Demands.{RanOn, logTold, resultOf, Demand1, Demand2, OneSource, Demand3a, Demand3, DemandPlan}
 use Rattle.engine.proofs.Intake.{laid-cells, lent-cells}
-use Rattle.engine.proofs.Ran.{allowed, leaves, by-verdict, cells-are, rounds-are, verdict-is, log-told, log-published, length-figure, length-whole}
+use Rattle.engine.proofs.Ran.{allowed, leaves, by-verdict, cells-are, verdict-is, log-published, length-figure, length-whole}
 use Rattle.engine.proofs.Sources.{only-source, first-row, single}
 use Rattle.engine.proofs.Copies.{result-copied}
 use Rattle.engine.proofs.Beyond.{beyond}
 use Rattle.engine.proofs.Refused.{refused-exactly}
-use Rattle.engine.proofs.Told.{carried-out, planned, own-header, rounds-figure, same-logs}
+use Rattle.engine.proofs.Told.{carried-out, charged, planned, own-header, rounds-figure, same-logs}
 
 -- Demand 1: runs and refusals.
 pub demand1 : (request : List ℕ) (lent : Lent) → Demand1 request lent
@@ -103,7 +105,8 @@ pub demand3 : (request : List ℕ) (lent : Lent) → Demand3 request lent
 demand3 request lent =
     record {
       carried-out = carried-out request lent;
-      charged = λ ran. rw (log-told request lent ran) (rounds-are request lent ran);
+      charged = charged request lent;
+      tallied = λ ran. charged request lent ran ∙ charge-tallied (logTold request lent);
       planned = planned request lent;
       verdict-last = log-published request lent;
       own-header = own-header request lent;
@@ -132,5 +135,6 @@ demandPlan plan cells log =
       cells-spared = cells-spared plan cells log;
       carried-out = replayed-plan plan cells log;
       charged = charge-plan plan cells log;
+      tallied = λ ran. charge-plan plan cells log ran ∙ charge-tallied (planLog plan cells log);
       planned = words-plan plan cells log;
     }

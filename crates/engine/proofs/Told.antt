@@ -6,7 +6,7 @@ use mathlib.Core.List.{List, [], _∷_, _++_, append-cancel-left}
 use mathlib.Core.Option.{Option, none, some, Option·some-ne-none}
 use Prim.Native.Nat.{ℕ, _^_, _<_, _≤_}
 use lib.ListN.{length, getD}
-use Rattle.machine.specs.Log.{replay, withoutPublished}
+use Rattle.machine.specs.Log.{replay, withoutPublished, chargeOf}
 use Rattle.machine.proofs.Replayed.{replay-log, words-log, charge-log}
 use Rattle.plans.specs.declared.Header.{Header}
 use Rattle.plans.specs.Plan.{cellsOf, planOf, verdictCell, published, roundsOfPlan}
@@ -31,6 +31,9 @@ module _ (request : List ℕ) (lent : Lent) (ran : RanOn request lent) where
       let room : cellsOf h ≤ length start = rw (long request lent (enough request lent w)) (enough request lent w) in
       rw (log-told request lent ran, cells-are request lent ran)
       (replay-log (planOf h) start (admitted-plan h (allowed request lent ran) (length start) room))
+
+  pub charged : roundsTold request lent ≡ chargeOf (logTold request lent)
+  charged = rw (log-told request lent ran) (rounds-are request lent ran)
 
   pub planned : withoutPublished (logTold request lent) ≡ planOf (headerIn request)
   planned = rw (log-told request lent ran) (words-log (planOf (headerIn request)) (startOf request lent))

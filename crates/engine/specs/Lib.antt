@@ -1,3 +1,4 @@
 pub mod Run
+pub mod Carry
 pub mod Network
 pub mod Demands

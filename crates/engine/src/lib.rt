@@ -1,23 +1,22 @@
 // The engine: a request run on lent buffers.
-// Rests on requests (checks), intake (the starting cells), planner (the plan) and runner (carrying out).
+// Rests on requests (checks), intake (the starting cells), planner (the plan), runner (carrying out) and charge (the rounds).
 use answers::Checked;
 use answers::Refusal;
 use planner::VerdictCell;
 use plans::Header;
 use plans::Span;
 use requests::Lengths;
-use runner::Tally;
+use runner::PlanReport;
 ghost use mathlib.Core.Path.{_≡_};
 ghost use Prim.Native.Nat.{_+_, _≤_};
-ghost use lib.ListN.{length, drop};
+ghost use lib.ListN.{length};
 ghost use lib.Seq.{sets};
 ghost use Rattle.machine.specs.Effect.{cellAt};
-ghost use Rattle.machine.specs.Log.{cellsAfter, logOf, sumOf, roundsOf};
-ghost use Rattle.plans.specs.Plan.{Accepted, planOf, cellsOf, verdictCell, published, byKind};
+ghost use Rattle.plans.specs.Plan.{verdictCell, published, byKind};
 ghost use Rattle.planner.specs.Figures.{cellIn};
-ghost use Rattle.answers.specs.Buffers.{overwritten};
 ghost use Rattle.intake.specs.Intake.{copied};
 ghost use Rattle.engine.specs.Run.{verdictAt, openedAt, There, outcome, Met};
+ghost use Rattle.engine.specs.Carry.{Ready, Carried};
 
 // What a run answers besides its buffers.
 pub struct Report {
@@ -48,14 +47,15 @@ fn publish(verdict: VerdictCell, cells: &[i64], log: &mut [u64], at: usize) -> u
 }
 
 // The plan of the header written to the log and carried out, in order, each word once; then the verdict published.
-fn carry(h: Header, verdict: VerdictCell, cells: &mut [i64], log: &mut [u64]) -> Tally
-    requires { ⌜ Accepted h × (cellIn verdict ≡ verdictCell h) × (cellsOf h ≤ length (now cells)) × (length (logOf (planOf h) (now cells)) ≤ length (now log)) ⌝ }
-    ensures { λ r. ⌜ (r .rounds ≡ sumOf roundsOf (drop 1 (planOf h))) × (r .length ≡ length (logOf (planOf h) (now (cells .entry)))) × (now (cells .exit) ≡ cellsAfter (drop 1 (planOf h)) (now (cells .entry))) × (now (log .exit) ≡ overwritten (logOf (planOf h) (now (cells .entry))) (now (log .entry))) ⌝ }
+fn carry(h: Header, verdict: VerdictCell, cells: &mut [i64], log: &mut [u64]) -> PlanReport
+    requires { ⌜ (cellIn verdict ≡ verdictCell h) × Ready h (now cells) (now log) ⌝ }
+    ensures { λ r. ⌜ Carried h (now (cells .entry)) (now (log .entry)) r (now (cells .exit)) (now (log .exit)) ⌝ }
 {
     let size = planner::fill(h, log);
-    let rounds = runner::carry_words(&log[..size], cells);
+    let tallies = runner::carry_words(&log[..size], cells);
     let length = publish(verdict, cells, log, size);
-    Tally { rounds, length }
+    let rounds = charge::rounds_of(tallies);
+    PlanReport { rounds, length }
 }
 
 // The verdict that the run left, 0 in a method without one.
@@ -107,10 +107,10 @@ pub fn run(
     let f = planner::figures_of(h);
     intake::lay(h, request, cells);
     let verdict = f.verdict;
-    let tally = carry(h, verdict, cells, log);
+    let carried = carry(h, verdict, cells, log);
     let report = Report {
-        rounds: tally.rounds,
-        log_length: tally.length,
+        rounds: carried.rounds,
+        log_length: carried.length,
         verdict: verdict_left(verdict, cells),
     };
     if report.verdict == 1 {

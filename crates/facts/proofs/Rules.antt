@@ -6,9 +6,12 @@ use Rattle.machine.specs.Effect.{bit, wrapAdd, both, pick, perform}
 use Rattle.machine.specs.Word.{packed, packedSet, decodeAt, zerosKept, present, admissibleAt}
 use Rattle.machine.specs.Log.{carry, logged, cellsAfter, logFrom, logOf, withoutPublishedFrom, withoutPublished, roundsOf, sumOf, chargeOf}
 use Rattle.machine.proofs.Facts as Machine
+use Rattle.charge.specs.Tally.{talliesOf, weighed}
+use Rattle.charge.proofs.Facts as Charge
 use Rattle.plans.specs.Blocks.{flat}
 use Rattle.plans.specs.Outline.{instructions}
 use Rattle.plans.specs.Method1 as Method1
+use Rattle.plans.specs.Method2 as Method2
 use Rattle.plans.specs.Plan.{Kind, instructionsOf, planOf, wordCountOf, cellsOf, resultsOf, lengthOf, verdictCell}
 use Rattle.plans.proofs.EachKind.{each-kind}
 use Rattle.plans.proofs.Facts as Plans
@@ -30,11 +33,12 @@ same : (o p : Outcome) → o .answer ≡ p .answer → o .cells ≡ p .cells →
 same o p a c l r = λ i. record { answer = a i; cells = c i; log = l i; results = fun-ext r i }
 
 pub rules : Rules
-unfolding signedOf bitsOf bit wrapAdd both pick perform packed packedSet decodeAt zerosKept present admissibleAt carry logged cellsAfter logFrom logOf withoutPublishedFrom withoutPublished roundsOf sumOf chargeOf flat instructions Method1.plan instructionsOf planOf cellsOf resultsOf lengthOf headerRefusal weightOf wordCountOf logLengthOf verdictCell sizesRefusal inRange edgeRefusal entryRefusal wordRefusal wordsRefusal requestRefusal stripsOf sourceOf laid copied startingCells firstBad logSize runnerRefusal planOutcome verdictOf outcome sourcesOf
+unfolding signedOf bitsOf bit wrapAdd both pick perform packed packedSet decodeAt zerosKept present admissibleAt carry logged cellsAfter logFrom logOf withoutPublishedFrom withoutPublished roundsOf sumOf chargeOf talliesOf weighed flat instructions Method1.plan Method2.plan instructionsOf planOf cellsOf resultsOf lengthOf headerRefusal weightOf wordCountOf logLengthOf verdictCell sizesRefusal inRange edgeRefusal entryRefusal wordRefusal wordsRefusal requestRefusal stripsOf sourceOf laid copied startingCells firstBad logSize runnerRefusal planOutcome verdictOf outcome sourcesOf
 rules =
     record {
       answers = Answers.facts;
       machine = Machine.facts;
+      charge = Charge.facts;
       plans = Plans.facts;
       planner = Planner.facts;
       requests = Requests.facts;
@@ -57,5 +61,6 @@ rules =
       fault-order = (refl, refl, refl, refl);
       refuses = refl;
       untouched = same _ _ refl refl refl (each-kind _ refl refl);
+      tallies = (refl, refl, refl, refl);
       sources = (refl, refl);
     }

@@ -9,7 +9,10 @@ use lib.ListN.{replicate}
 use Rattle.answers.specs.Told.{Told}
 use Rattle.answers.specs.Facts as Answers
 use Rattle.answers.specs.Facts.{byNumber, atPlace}
+use Rattle.machine.specs.Log.{operations, rounds}
 use Rattle.machine.specs.Facts as Machine
+use Rattle.charge.specs.Tally.{talliesOf, weighed}
+use Rattle.charge.specs.Facts as Charge
 use Rattle.plans.specs.Plan.{headerOf, distances, parents, byKind}
 use Rattle.plans.specs.Facts as Plans
 use Rattle.planner.specs.Facts as Planner
@@ -35,6 +38,8 @@ pub record Rules : Type 0 where
   pub answers : Answers.Facts
   -- "Cell words"
   pub machine : Machine.Facts
+  -- Document 02, ask 2: tallies by op, multiplied last
+  pub charge : Charge.Facts
   -- "Plan of method 1", "Plan of method 2", and the limits of "Request words"
   pub plans : Plans.Facts
   -- "Who caused it": headers, writing a plan
@@ -99,5 +104,15 @@ pub record Rules : Type 0 where
         log = smallestPlan ++ (0 ∷ 9 ∷ []);
         results = byKind (pos 0 ∷ pos 9 ∷ []) (negsuc 0 ∷ pos 9 ∷ []);
       }
+  -- "Keep eight tallies, one for each op, and multiply by the rounds column at the end" (document 02, ask 2): of the logs of rows 2 and 6 of the
+  -- edges, which tell 112 and 116 rounds.
+  pub tallies : (talliesOf (operations (outcome (0x1000020000100000 ∷ 0x00010000FFFFFFFB ∷ []) (nines 17 48 2 2) .log))
+      ≡ 9 ∷ 2 ∷ 2 ∷ 6 ∷ 8 ∷ 8 ∷ 10 ∷ 1 ∷ [])
+      × (weighed (9 ∷ 2 ∷ 2 ∷ 6 ∷ 8 ∷ 8 ∷ 10 ∷ 1 ∷ []) rounds ≡ 112)
+      × (talliesOf
+      (operations
+      (outcome (0x2000020000000000 ∷ 0xFFFFFFFF ∷ 0xFFFFFFFF ∷ 0xFFFFFFFF ∷ 0xFFFFFFFF ∷ []) (nines 20 67 2 2) .log))
+      ≡ 12 ∷ 6 ∷ 4 ∷ 8 ∷ 4 ∷ 4 ∷ 28 ∷ 0 ∷ [])
+      × (weighed (12 ∷ 6 ∷ 4 ∷ 8 ∷ 4 ∷ 4 ∷ 28 ∷ 0 ∷ []) rounds ≡ 116)
   -- The sources that distances are from: the header's, in both methods.
   pub sources : (sourcesOf (headerOf 0x1000200008000007) ≡ 7 ∷ []) × (sourcesOf (headerOf 0x2000200000000013) ≡ 19 ∷ [])

@@ -1,8 +1,9 @@
 pub mod Facts
 pub mod Sized
 pub mod Lowest
+pub mod Tallying
 pub mod Turn
 pub mod Foreign
-pub mod Answered
 pub mod PlanWithin
+pub mod Answered
 pub mod Refused

@@ -13,7 +13,7 @@ use lib.Dec.{T, ltb, leb, leb→le, lt→ltb}
 use lib.ListN.{length, getD, drop, length-drop}
 use lib.Seq.{getD-drop}
 use mir.Facts.{yes-and}
-use borrow.Author.Tests.{le-leb, lt-leb, leb-false, eq-eqb}
+use borrow.Author.Tests.{le-leb, lt-leb, leb-false, ltb-true, ltb-false, eq-eqb}
 use Rattle.machine.specs.Word.{opField, dField, aField, bField, admissibleAt, admissible}
 use Rattle.machine.proofs.Admitted.{is-set, is-open, is-rest, op-below, spare, set-d, open-a, open-zeros, rest-in}
 use Rattle.runner.specs.Runner.{badAt, firstBad, logSize, runnerRefusal}
@@ -119,6 +119,14 @@ lowest-from count base (w ∷ ws) (suc k) place is l bad f =
 module _ (plan : List ℕ) (count : ℕ) where
   pub allowed-from : firstBad count 1 (drop 1 plan) ≡ none → AllowedTo plan count (length plan)
   allowed-from fine place l h = word-fine count place (getD plan place 0) .0 (none-bad plan count fine place l h)
+
+  -- Such a plan ends before place 16,777,216.
+  pub few-words : AllowedTo plan count (length plan) → length plan ≤ 16777216
+  few-words allowed = by-test (ltb 16777216 (length plan)) refl
+    where
+      by-test : (b : Bool) → ltb 16777216 (length plan) ≡ b → length plan ≤ 16777216
+      by-test true l = let last = allowed 16777216 (omega arith) (ltb-true 16777216 (length plan) l) .place-there in omega arith
+      by-test false l = ltb-false 16777216 (length plan) l
 
   -- The words after the header, by their places.
   not-bad-at : (end : ℕ) → AllowedTo plan count end → (i : ℕ) → 1 + i < end → badAt count (1 + i) (getD (drop 1 plan) i 0) ≡ false

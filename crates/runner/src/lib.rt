@@ -1,21 +1,21 @@
 // The runner: a plan from outside, carried out on lent cells and logged.
-// Rests on answers, fields and machine.
+// Rests on answers, charge, fields and machine.
 use answers::Refusal;
 ghost use mathlib.Core.Path.{_≡_};
 ghost use Prim.Native.Nat.{_≤_};
 ghost use lib.ListN.{length, drop};
-ghost use Rattle.answers.specs.Buffers.{overwritten};
-ghost use Rattle.machine.specs.Log.{Admitted, cellsAfter, logOf, sumOf, roundsOf};
-ghost use Rattle.runner.specs.Runner.{badAt, firstBad, foundOf, logSize, planOutcome, MetPlan};
+ghost use Rattle.machine.specs.Log.{Admitted, cellsAfter, logOf};
+ghost use Rattle.charge.specs.Tally.{talliesOf};
+ghost use Rattle.runner.specs.Runner.{badAt, firstBad, foundOf, logSize, CarriedOut, planOutcome, MetPlan};
 
-// What a run answers: its rounds, and the words of its log.
-pub struct Tally {
+// What a run of a plan answers: its rounds, and the words of its log.
+pub struct PlanReport {
     pub rounds: u64,
     pub length: usize,
 }
 
 pub enum PlanAnswer {
-    Ran(Tally),
+    Ran(PlanReport),
     Refused(Refusal),
 }
 
@@ -66,44 +66,42 @@ fn log_length(plan: &[u64]) -> usize
     size
 }
 
-// Words that the cells admit, but for the first one, a header, carried out in order, each once; their rounds.
-pub fn carry_words(words: &[u64], cells: &mut [i64]) -> u64
+// Words that the cells admit, but for the first one, a header, carried out in order, each once; their tallies by op.
+pub fn carry_words(words: &[u64], cells: &mut [i64]) -> [u64; 8]
     requires { ⌜ Admitted (length (now cells)) (drop 1 (now words)) ⌝ }
-    ensures { λ r. ⌜ (r ≡ sumOf roundsOf (drop 1 (now (words .entry)))) × (now (cells .exit) ≡ cellsAfter (drop 1 (now (words .entry))) (now (cells .entry))) ⌝ }
+    ensures { λ r. ⌜ (r ≡ talliesOf (drop 1 (now (words .entry)))) × (now (cells .exit) ≡ cellsAfter (drop 1 (now (words .entry))) (now (cells .entry))) ⌝ }
 {
-    let table = machine::ROUNDS;
-    let mut charge: u64 = 0;
+    let mut tallies = [0u64; 8];
     let mut at: usize = 1;
     while at < words.len() {
         let next = words[at];
         machine::step(cells, next);
-        charge += machine::cost(next, &table);
+        charge::tally(&mut tallies, next);
         at += 1;
     }
-    charge
+    tallies
 }
 
-// The plan's operation words carried out in order, each once, and logged; the rounds.
-fn carry_plan(plan: &[u64], cells: &mut [i64], log: &mut [u64]) -> u64
+// The plan's operation words carried out in order, each once, and logged; their tallies by op.
+fn carry_plan(plan: &[u64], cells: &mut [i64], log: &mut [u64]) -> [u64; 8]
     requires { ⌜ Admitted (length (now cells)) (drop 1 (now plan)) × (length (logOf (now plan) (now cells)) ≤ length (now log)) ⌝ }
-    ensures { λ r. ⌜ (r ≡ sumOf roundsOf (drop 1 (now (plan .entry)))) × (now (cells .exit) ≡ cellsAfter (drop 1 (now (plan .entry))) (now (cells .entry))) × (now (log .exit) ≡ overwritten (logOf (now (plan .entry)) (now (cells .entry))) (now (log .entry))) ⌝ }
+    ensures { λ r. ⌜ CarriedOut (now (plan .entry)) (now (cells .entry)) (now (log .entry)) r (now (cells .exit)) (now (log .exit)) ⌝ }
 {
-    let mut rounds: u64 = 0;
+    let mut tallies = [0u64; 8];
     if plan.len() == 0 {
-        return rounds;
+        return tallies;
     }
     log[0] = plan[0];
-    let table = machine::ROUNDS;
     let mut at: usize = 1;
     let mut k: usize = 1;
     while k < plan.len() {
         let word = plan[k];
         at = machine::append(cells, log, at, word);
         machine::step(cells, word);
-        rounds += machine::cost(word, &table);
+        charge::tally(&mut tallies, word);
         k += 1;
     }
-    rounds
+    tallies
 }
 
 // A foreign plan run: refusal 9 with the lowest place, then 7; refused, the buffers stay.
@@ -117,8 +115,9 @@ pub fn run_plan(plan: &[u64], cells: &mut [i64], log: &mut [u64]) -> PlanAnswer
     if log.len() < size {
         return PlanAnswer::Refused(answers::LOG);
     }
-    let rounds = carry_plan(plan, cells, log);
-    PlanAnswer::Ran(Tally {
+    let tallies = carry_plan(plan, cells, log);
+    let rounds = charge::rounds_of(tallies);
+    PlanAnswer::Ran(PlanReport {
         rounds,
         length: size,
     })

@@ -6,7 +6,7 @@ use native.Mathlib.Omega.{arith}
 use Rattle.plans.specs.Plan.{distances, parents, byKind}
 use Rattle.plans.proofs.EachKind.{each-kind}
 use Rattle.engine.specs.Run.{Lent, refusalOf}
-use Rattle.engine.proofs.Answered.{refused, Passed, limits, allowed, counted, cells-enough, can-carry, verdict-there, can-copy, cycled, ran}
+use Rattle.engine.proofs.Answered.{refused, Passed, limits, allowed, counted, cells-enough, ready, verdict-there, can-copy, cycled, ran}
 use Rattle.engine.proofs.run.Statement.{statement}
 use Rattle.engine.proofs.run.Tie as tie
 
@@ -66,8 +66,7 @@ carry-requires c κs =
     let l = c .before .before .before in
     let f = figured l in
     let p = passed (f .before) in
-    let (a, enough, room) = can-carry p (l .lay .ensures) in
-    (a, f .figures-of .ensures .verdict-is, enough, room)
+    (f .figures-of .ensures .verdict-is, ready p (l .lay .ensures))
 
 verdict-left-requires : tie.Need-verdict-left-requires
 unfolding begun checked figured laid lent

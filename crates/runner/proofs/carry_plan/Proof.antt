@@ -3,18 +3,15 @@ use mathlib.Core.Path.{refl, _∙_}
 use Prim.Native.Nat.{_-_}
 use native.Mathlib.Omega.{arith}
 use lib.ListN.{length, length-set}
-use Rattle.runner.proofs.Turn.{Turn, has-header, start, can, fits, again, done, no-words}
+use Rattle.runner.proofs.Turn.{Turn, has-header, start, room, can, known, fits, again, done, no-words}
 use Rattle.runner.proofs.carry_plan.Statement.{statement}
 use Rattle.runner.proofs.carry_plan.Tie as tie
 
 abbrev Inv-loop : tie.InvT-loop
-Inv-loop plan cells₀ log₀ rounds₀ table at₀ k₀ cells log rounds at k = Turn plan cells₀ log₀ cells log at rounds k
+Inv-loop plan cells₀ log₀ tallies₀ at₀ k₀ cells log tallies at k = Turn plan cells₀ log₀ cells log at tallies k
 
 abbrev μ-loop : tie.MeasureT-loop
-μ-loop plan cells₀ log₀ rounds₀ table at₀ k₀ cells log rounds at k = length plan - k
-
-returns : tie.Need-returns Inv-loop μ-loop
-returns c = let d = no-words _ _ _ (c .if1 .taken) in (d .charges, d .leaves, d .writes)
+μ-loop plan cells₀ log₀ tallies₀ at₀ k₀ cells log tallies at k = length plan - k
 
 slice-write-log : tie.Need-slice-write-log Inv-loop μ-loop
 slice-write-log c =
@@ -36,20 +33,21 @@ step-requires c κs =
     let t = c .before .before .before .before .before .before .before in
     can (t .before .loop .inv .carrying) (t .loop-test .taken) _ refl
 
+tally-requires : tie.Need-tally-requires Inv-loop μ-loop
+tally-requires c κs =
+    let t = c .before .before .before .before .before .before .before .before .before .before in
+    let i = t .before .loop .inv .carrying in
+    (omega (arith, known i (t .loop-test .taken) _ refl), room i (omega arith) _)
+
 loop-again : tie.Need-loop-again Inv-loop μ-loop
 loop-again c =
     let s = c .before .before .before in
     let a = s .before .before .before .before in
     let t = a .before .before .before .before in
-    again (t .before .loop .inv) (t .loop-test .taken) _ refl _ _ _ _ (s .step .ensures) (a .append .ensures) (c .cost .ensures)
+    again (t .before .loop .inv) (t .loop-test .taken) _ refl _ _ _ _ (s .step .ensures) (a .append .ensures) (c .tally .ensures)
 
 same-length-2 : tie.Need-same-length-2 Inv-loop μ-loop
 same-length-2 c = c .before .loop .inv .long ∙ simp length-set
-
-returns-2 : tie.Need-returns-2 Inv-loop μ-loop
-returns-2 c =
-    let d = done _ (c .before .loop .inv) (omega arith) refl (c .loop-test .left) in
-    (d .charges, d .leaves, d .writes)
 
 pub carry-plan-spec : {M : Type 1} → statement M
 carry-plan-spec =
@@ -57,7 +55,7 @@ carry-plan-spec =
     (tie.spec
     Inv-loop
     μ-loop
-    returns
+    (λ c. no-words _ _ _ (c .if1 .taken))
     (λ c. omega arith)
     slice-write-log
     loop-holds
@@ -65,11 +63,10 @@ carry-plan-spec =
     (λ c. omega arith)
     append-requires
     step-requires
-    (λ c κs. refl)
-    (λ c. omega arith)
+    tally-requires
     (λ c. omega arith)
     (λ c. omega arith)
     loop-again
     (λ c. c .before .loop .inv .carrying .count)
     same-length-2
-    returns-2)
+    (λ c. done _ (c .before .loop .inv) (omega arith) refl (c .loop-test .left)))

@@ -4,7 +4,7 @@ use mathlib.Core.Path.{_≡_}
 use lib.ListN.{length, drop}
 use Rattle.runner.specs.declared.Found.the-variants.{Nothing}
 use Rattle.runner.specs.Runner.{firstBad, foundOf}
-use Rattle.runner.proofs.Answered.{bad-word, too-short, can-carry, ran}
+use Rattle.runner.proofs.Answered.{bad-word, too-short, can-carry, rounds-fit, ran}
 use Rattle.runner.proofs.run_plan.Statement.{statement}
 use Rattle.runner.proofs.run_plan.Tie as tie
 
@@ -30,12 +30,27 @@ carry-plan-requires c κs =
     let s = l .before .before .before .before .before .before .args in
     can-carry (s .plan .now) (s .cells .now) (s .log .now) (clear (l .before)) _ (l .log-length .ensures) (f .if1 .left)
 
+-- What `carry_plan` left, at the places after it.
+carried : tie.After-slice-known2 → tie.After-carry-plan
+carried c = c .before .before .before
+
+left : tie.After-carry-plan → tie.Else1
+left c = c .before .before .before
+
+rounds-of-requires : tie.Need-rounds-of-requires
+unfolding carried left
+rounds-of-requires c κs =
+    let p = carried c in
+    let l = left p .before in
+    rounds-fit _ _ _ (clear (l .before)) _ (l .log-length .ensures) (p .carry-plan .ensures)
+
 returns-3 : tie.Need-returns-3
+unfolding carried left
 returns-3 c =
-    let p = c .before .before .before in
-    let f = p .before .before .before in
+    let p = carried (c .before) in
+    let f = left p in
     let l = f .before in
-    ran _ _ _ (clear (l .before)) _ (l .log-length .ensures) (f .if1 .left) _ _ _ (p .carry-plan .ensures)
+    ran _ _ _ (clear (l .before)) _ (l .log-length .ensures) (p .carry-plan .ensures) (f .if1 .left) _ (c .rounds-of .ensures)
 
 pub run-plan-spec : {M : Type 1} → statement M
 run-plan-spec =
@@ -49,6 +64,7 @@ run-plan-spec =
     (λ c κs. search needs)
     returns-2
     carry-plan-requires
+    rounds-of-requires
     (λ c. search needs)
     (λ c. search needs)
     returns-3)
