@@ -1,5 +1,5 @@
 -- Tallies (document 02, ask 2): how many words of each op were carried out, and the rounds worked from them, multiplied last.
--- Rests on the op of a word and on the column of rounds.
+-- Rests on the op of a word; the column is any list.
 use mathlib.Core.Bool.{cond}
 use mathlib.Core.List.{List, [], _∷_, map}
 use Prim.Native.Nat.{ℕ, _+_, _*_}
