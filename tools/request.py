@@ -20,16 +20,19 @@ byte first, on standard output."""
 TEXT_FORMAT = """\
 The text, line by line; what follows a # and blank lines are passed over:
 
-  method 1          1 (Bellman-Ford over lanes) or 2 (Dijkstra over a table)
+  method 1          1 (Bellman-Ford over lanes), 2 (Dijkstra over a table) or
+                    3 (Bellman-Ford over lanes sorted by to-yard)
   yards 2           how many yards there are, 1 to 32; they are numbered from 0
   source 0          the yard from which routes start
-  lane 0 1 -5       method 1: from-yard, to-yard and price, at most 128 lanes;
-                    the first one is lane 0, the next lane 1, and so on
+  lane 0 1 -5       methods 1 and 3: from-yard, to-yard and price, at most 128
+                    lanes; the first one is lane 0, the next lane 1, and so on;
+                    in method 3 no to-yard is below that of the lane before it
   row 0 7           method 2: the prices from one yard to each yard, a row for
   row - 0           each yard, yard 0 first; - (or -1) where there is no lane
 
-Prices go from -1000000 to 1000000 in method 1, from 0 to 1000000 in method 2.
-Every number is whole, in decimal digits, with - before them if it is negative.
+Prices go from -1000000 to 1000000 in methods 1 and 3, from 0 to 1000000 in
+method 2. Every number is whole, in decimal digits, with - before them if it is
+negative.
 
 Bad text is answered on standard error: for each bad line a message with the
 file, the line and what was expected there, then one for each thing that is
@@ -39,8 +42,8 @@ written, and the exit status is 1, as it is when a file cannot be used.
 
 With --unchecked a number only has to fit its bit field (method 4 bits, yards,
 lanes and source 20, a lane's yards 8, a price 32 in two's complement), and
-`lane` and `row` lines go out as they stand, in any method and number; the
-header counts the `lane` lines. So requests can be made that are refused."""
+`lane` and `row` lines go out as they stand, in any method, number and order;
+the header counts the `lane` lines. So requests can be made that are refused."""
 
 
 class BadText(Exception):
@@ -145,7 +148,7 @@ BIT_FIELDS = Limits(
 
 # Document 01's own limits, for as long as the number of vertices is not known.
 RULES = Limits(
-    method=Range(1, 2),
+    method=Range(1, 3),
     vertices=Range(1, 32),
     edges=Range(0, 128),
     source=Range(0, 31),
@@ -223,6 +226,23 @@ def method_complaints(lines, method):
         yield Complaint(line.number, f"`{other}` in method {method}", f"`{FORMS[own]}`")
 
 
+def known_head(line, allowed):
+    """The vertex that an edge's line leads to, or None if the line has another form or gives none that is allowed."""
+    if len(line.values) != 3 or not allowed.takes(line.values[1]):
+        return None
+    return int(line.values[1])
+
+
+def order_complaints(lines, allowed):
+    """Complains of edges that lead to a lower vertex than the edge before them."""
+    edges = having(lines, "lane")
+    for before, line in zip(edges, edges[1:]):
+        least, head = known_head(before, allowed), known_head(line, allowed)
+        if least is not None and head is not None and head < least:
+            wrong = f"to-yard {head} is below that of the lane before it ({least}, line {before.number})"
+            yield Complaint(line.number, wrong, "lanes sorted by to-yard")
+
+
 def table_complaints(lines, vertices):
     """Complains of the first row that is one too many, and of too many or too few weights in a row."""
     expected = f"{vertices}, one for each yard"
@@ -284,6 +304,7 @@ def messages_for(lines, unchecked):
         edge_complaints(lines, limits.edges),
         [] if unchecked or vertices is None else table_complaints(lines, vertices),
         number_complaints(lines, limits),
+        order_complaints(lines, limits.vertex) if method == 3 else [],
     )
     of_line = {}
     for complaint in found:

@@ -7,6 +7,7 @@
 //! log is short, and make them anew when it is long: whichever is faster.
 
 mod edges;
+mod sorted;
 mod table;
 
 use crate::reference::plan::{lay, Public, FAR};
@@ -22,6 +23,7 @@ pub fn run(request: &[u64], cells: &mut [i64], log: &mut [u64]) -> u64 {
     log[0] = request[0];
     match public.method {
         1 => edges::run(&public, cells, &mut log[1..]),
+        3 => sorted::run(&public, cells, &mut log[1..]),
         _ => table::run(&public, cells, &mut log[1..]),
     }
 }
@@ -36,6 +38,15 @@ fn log_rows<const N: usize>(block: &mut [u64], mut first: [u64; N], steps: [u64;
             *word += step;
         }
     }
+}
+
+/// Logs what the opening sets of each vertex: its name, its distance, and more.
+fn log_vertices<const N: usize>(block: &mut [u64], first: [u64; N], source: u64) {
+    let mut steps = [word::TO; N];
+    steps[0] += word::RIGHT;
+    log_rows(block, first, steps);
+    // The distance of the source is 0.
+    block[N * source as usize + 1] -= FAR as u64;
 }
 
 /// Puts the source at 0, all others out of reach, and none has a parent yet.

@@ -11,14 +11,14 @@ mod reference;
 
 use std::hint::black_box;
 
-use reference::plan::{emit, lay, pack, Machine, Public};
+use reference::plan::{emit, head, lay, pack, Machine, Public};
 use vukstaja::Answer;
 
 /// Each contender writes about so many words for each size, in all its turns,
 const WORDS: usize = 40_000_000;
 /// and at least so many in a turn, so that reading the clock costs next to nothing.
 const WORDS_PER_TURN: usize = 50_000;
-const SIZES: [(u64, u64, u64); 8] = [
+const SIZES: [(u64, u64, u64); 12] = [
     (1, 4, 16),
     (1, 8, 32),
     (1, 16, 64),
@@ -27,6 +27,10 @@ const SIZES: [(u64, u64, u64); 8] = [
     (2, 8, 0),
     (2, 16, 0),
     (2, 32, 0),
+    (3, 4, 16),
+    (3, 8, 32),
+    (3, 16, 64),
+    (3, 32, 128),
 ];
 
 /// The baselines of a run test nothing of the request, and copy no results.
@@ -133,14 +137,17 @@ impl Task {
     fn new(method: u64, n: u64, m: u64) -> Task {
         let header = pack(method, n, m, 0);
         let mut request = vec![header];
-        if method == 1 {
+        if method == 2 {
+            request.extend((0..n * n).map(|at| 1 + at * 37 % 1009));
+        } else {
             request.extend((0..m).map(|i| {
                 let tail = n - 1 - i % n;
                 let head = (tail + 1 + i / n) % n;
                 tail << 56 | head << 48 | (1 + i * 37 % 100)
             }));
-        } else {
-            request.extend((0..n * n).map(|at| 1 + at * 37 % 1009));
+        }
+        if method == 3 {
+            request[1..].sort_by_key(|&edge| head(edge));
         }
         let plan = reference::plan_words(header);
         Task { request, plan }

@@ -1,9 +1,9 @@
 //! Private routing: safe calls to the proved static library.
 //!
 //! A graph has vertices and directed edges with weights; an edge of negative
-//! weight is allowed in method 1. A run answers the distance of each vertex
-//! from the source and its parent on a shortest walk, and writes a log that
-//! follows from the public header and the verdict alone.
+//! weight is allowed in methods 1 and 3. A run answers the distance of each
+//! vertex from the source and its parent on a shortest walk, and writes a log
+//! that follows from the public header and the verdict alone.
 //!
 //! ```
 //! // Two vertices, and one edge from 0 to 1 of weight -5.
@@ -69,6 +69,10 @@ pub enum Method {
     BellmanFord = 1,
     /// Method 2: Dijkstra over a table of weights.
     Dijkstra = 2,
+    /// Method 3: Bellman-Ford over a list of edges sorted by head, each pass
+    /// from the distances of the pass before. Of edges that offer a vertex the
+    /// same the lowest becomes its parent.
+    SortedBellmanFord = 3,
 }
 
 /// The public part of a request.
@@ -81,12 +85,13 @@ pub struct Header {
 }
 
 impl Header {
-    /// Reads a header word; `None` if its method is not 1 or 2. Whether the
+    /// Reads a header word; `None` if its method is not 1, 2 or 3. Whether the
     /// library accepts the rest, [`sizes`] tells.
     pub fn from_word(word: u64) -> Option<Header> {
         let method = match word >> (3 * FIELD_BITS) {
             1 => Method::BellmanFord,
             2 => Method::Dijkstra,
+            3 => Method::SortedBellmanFord,
             _ => return None,
         };
         Some(Header {
@@ -146,7 +151,7 @@ pub struct Refusal {
 impl Refusal {
     fn sentence(&self) -> &'static str {
         match self.number {
-            1 => "the header is missing, or its method is not 1 or 2",
+            1 => "the header is missing, or its method is not 1, 2 or 3",
             2 => "the number of vertices is 0 or over 32",
             3 => "the number of edges is over 128, or not 0 in method 2",
             4 => "the source is not one of the vertices",
@@ -160,6 +165,7 @@ impl Refusal {
             12 => "the source reaches a cycle of negative weight",
             13 => "an edge leads from a vertex that is not there",
             14 => "an edge leads to a vertex that is not there",
+            15 => "an edge leads to a lower vertex than the edge before it",
             _ => "the refusal has no known number",
         }
     }
@@ -195,7 +201,7 @@ pub struct Routes {
     pub report: Report,
     /// `None` where no walk from the source leads.
     pub distances: Vec<Option<i64>>,
-    /// The last edge's number in method 1, the last vertex but one in method 2.
+    /// The last edge's number in methods 1 and 3, the last vertex but one in method 2.
     pub parents: Vec<Option<usize>>,
     pub log: Vec<u64>,
 }

@@ -7,7 +7,7 @@ use std::collections::HashSet;
 
 use generator::{buffers, damage, edge_word, faults, request, small_request, Random};
 use reference::graph::Graph;
-use reference::plan::{pack, Public, FAR};
+use reference::plan::{head, pack, Public, FAR};
 use reference::{Buffers, Outcome};
 use vukstaja::{Answer, Header, Method, Refusal, Routes};
 
@@ -84,6 +84,9 @@ fn judge(request: &[u64], outcome: &Outcome, left: &Buffers) {
     let distances = graph.bellman_ford();
     assert_eq!(outcome.number == 12, distances.is_none(), "{request:x?}");
     assert_eq!(outcome.values[2], u64::from(distances.is_none()));
+    if request[0] >> 60 == 3 {
+        judge_passes(request, &graph, outcome, left);
+    }
     let Some(distances) = distances else {
         return;
     };
@@ -97,6 +100,25 @@ fn judge(request: &[u64], outcome: &Outcome, left: &Buffers) {
         let steps = walk_back(&graph, left, vertex, dense);
         assert_eq!(steps.is_some(), distance.is_some(), "{request:x?}");
     }
+}
+
+/// Judges method 3 by its passes, which fix every parent. A negative cycle
+/// leaves no results, but the same cells.
+fn judge_passes(request: &[u64], graph: &Graph, outcome: &Outcome, left: &Buffers) {
+    let passes = graph.passes();
+    let first = Public::read(request[0]).distances() as usize;
+    for vertex in 0..graph.vertices {
+        let distance = passes.distances[vertex].unwrap_or(FAR);
+        let parent = passes.parents[vertex].map_or(-1, |edge| edge as i64);
+        let at = first + vertex;
+        let found = (left.cells[at], left.cells[at + graph.vertices]);
+        assert_eq!(found, (distance, parent), "{request:x?}");
+        if outcome.number == 0 {
+            let given = (left.distances[vertex], left.parents[vertex]);
+            assert_eq!(given, found, "{request:x?}");
+        }
+    }
+    assert_eq!(outcome.number == 12, passes.gains, "{request:x?}");
 }
 
 /// Follows the parents along tight edges to the source and counts the steps;
@@ -124,7 +146,7 @@ fn walk_back(graph: &Graph, left: &Buffers, vertex: usize, dense: bool) -> Optio
 #[test]
 fn small_requests() {
     let mut random = Random::new(SEED);
-    let mut seen = [0; 15];
+    let mut seen = [0; 16];
     for _ in 0..100_000 {
         let mut request = small_request(&mut random);
         let mut lent = buffers(&mut random, request[0]);
@@ -135,7 +157,7 @@ fn small_requests() {
         seen[outcome.number as usize] += 1;
     }
     println!("100000 requests, by number: {seen:?}");
-    for number in (0..15).filter(|&number| number != 9) {
+    for number in (0..16).filter(|&number| number != 9) {
         assert!(seen[number] > 100, "number {number} is rare: {seen:?}");
     }
 }
@@ -145,29 +167,53 @@ fn small_requests() {
 fn words_with_every_combination_of_faults() {
     let mut random = Random::new(SEED + 9);
     let mut compared = 0;
-    for (method, n) in [(1, 1), (1, 2), (1, 31), (1, 32), (2, 1), (2, 2), (2, 3)] {
+    let mut seen = HashSet::new();
+    let edges = [1, 3].map(|method| [1, 2, 31, 32].map(|n| (method, n)));
+    let tables = [(2, 1), (2, 2), (2, 3)];
+    for (method, n) in edges.concat().into_iter().chain(tables) {
         let valid = request(&mut random, method, n, 3);
         let combinations = faults::combinations(method);
         for at in 1..valid.len() {
             for chosen in &combinations {
                 for later in &combinations {
-                    compare_faults(&mut random, &valid, at, chosen, later);
-                    compared += 1;
+                    let faulty = with_faults(&mut random, &valid, at, [chosen, later]);
+                    if let Some(request) = faulty {
+                        compare_faults(&mut random, &request, at, chosen);
+                        compared += 1;
+                        seen.insert((method, chosen.clone()));
+                    }
                 }
             }
         }
     }
     println!("{compared} requests with chosen faults");
+    // In method 3 a head that is not there is not below another: 8 of 32 cannot be.
+    assert_eq!(seen.len(), 16 + 4 + 24);
 }
 
-fn compare_faults(random: &mut Random, valid: &[u64], at: usize, chosen: &[u64], later: &[u64]) {
+/// A request with these faults in the word at a place and in the next one,
+/// unless the words before them allow no such faults.
+fn with_faults(
+    random: &mut Random,
+    valid: &[u64],
+    at: usize,
+    faults: [&[u64]; 2],
+) -> Option<Vec<u64>> {
     let public = Public::read(valid[0]);
     let mut request = valid.to_vec();
-    for (word, faults) in request[at..].iter_mut().zip([chosen, later]) {
-        *word = faults::word(random, &public, faults);
+    for (at, faults) in (at..request.len()).zip(faults) {
+        let floor = faults::floor(&public, &request, at);
+        if !faults::possible(faults, floor) {
+            return None;
+        }
+        request[at] = faults::word(random, &public, floor, faults);
     }
+    Some(request)
+}
+
+fn compare_faults(random: &mut Random, request: &[u64], at: usize, chosen: &[u64]) {
     let lent = buffers(random, request[0]);
-    let (outcome, _) = compare(&request, lent);
+    let (outcome, _) = compare(request, lent);
     if let Some(&number) = chosen.first() {
         let place = Some(at as u64 - 1);
         assert_eq!((outcome.number, outcome.place), (number, place));
@@ -179,7 +225,7 @@ fn middle_requests() {
     let mut random = Random::new(SEED + 1);
     for _ in 0..200 {
         let (n, m) = (7 + random.below(8), random.below(40));
-        let method = 1 + random.below(2);
+        let method = 1 + random.below(3);
         let request = request(&mut random, method, n, m);
         let lent = buffers(&mut random, request[0]);
         compare(&request, lent);
@@ -189,7 +235,11 @@ fn middle_requests() {
 #[test]
 fn full_size_requests() {
     let mut random = Random::new(SEED + 2);
-    for (method, runs, words, rounds) in [(1, 12, 1_060_837, 3_039_203), (2, 40, 44_227, 57_506)] {
+    for (method, runs, words, rounds) in [
+        (1, 12, 1_060_837, 3_039_203),
+        (2, 40, 44_227, 57_506),
+        (3, 20, 437_222, 516_708),
+    ] {
         for _ in 0..runs {
             let request = request(&mut random, method, 32, 128);
             let lent = buffers(&mut random, request[0]);
@@ -201,20 +251,25 @@ fn full_size_requests() {
 
 #[test]
 fn full_size_negative_cycle_around_all_vertices() {
-    let mut request = vec![pack(1, 32, 128, 0)];
-    // Against the order of the edges a pass moves one step only.
-    for i in 0..128 {
-        let tail = 31 - i % 32;
-        let weight = if tail == 31 { -31 } else { 1 };
-        request.push(edge_word(tail, (tail + 1) % 32, weight));
-    }
     let mut random = Random::new(SEED + 3);
-    let lent = buffers(&mut random, request[0]);
-    assert_eq!(compare(&request, lent.clone()).0.number, 0);
-    for word in request.iter_mut().skip(1).filter(|word| **word >> 56 == 31) {
-        *word = edge_word(31, 0, -32);
+    for method in [1, 3] {
+        let mut request = vec![pack(method, 32, 128, 0)];
+        // Against the order of the edges a pass of method 1 moves one step only.
+        for i in 0..128 {
+            let tail = 31 - i % 32;
+            let weight = if tail == 31 { -31 } else { 1 };
+            request.push(edge_word(tail, (tail + 1) % 32, weight));
+        }
+        if method == 3 {
+            request[1..].sort_by_key(|&word| head(word));
+        }
+        let lent = buffers(&mut random, request[0]);
+        assert_eq!(compare(&request, lent.clone()).0.number, 0);
+        for word in request.iter_mut().skip(1).filter(|word| **word >> 56 == 31) {
+            *word = edge_word(31, 0, -32);
+        }
+        assert_eq!(compare(&request, lent).0.number, 12);
     }
-    assert_eq!(compare(&request, lent).0.number, 12);
 }
 
 /// Solving finds the lengths by itself, for damaged headers too.
@@ -222,7 +277,7 @@ fn full_size_negative_cycle_around_all_vertices() {
 fn solved_requests() {
     let mut random = Random::new(SEED + 7);
     let mut roomy = Buffers {
-        cells: vec![0; 1190],
+        cells: vec![0; 8_874],
         log: vec![0; 1_060_837],
         distances: vec![0; 32],
         parents: vec![0; 32],
@@ -261,11 +316,11 @@ fn compare_routes(routes: &Routes, expected: &Outcome, left: &Buffers) {
 #[test]
 fn refusals_have_sentences_of_their_own() {
     let place = None;
-    let texts = (1..=14).map(|number| Refusal { number, place }.to_string());
+    let texts = (1..=15).map(|number| Refusal { number, place }.to_string());
     let sentences: HashSet<String> = texts
         .map(|text| text.split_once(": ").expect("a number first").1.to_string())
         .collect();
-    assert_eq!(sentences.len(), 14);
+    assert_eq!(sentences.len(), 15);
     let placed = Refusal {
         number: 11,
         place: Some(0),
@@ -392,11 +447,12 @@ fn written_plans() {
 /// Every number of vertices and every number of edges occurs here.
 #[test]
 fn written_plans_have_the_stated_lengths() {
-    let pairs = (0..=128).map(|m| (1, 1 + m % 32, m));
-    let tables = (1..=32).map(|n| (2, n, 0));
+    let edges = [Method::BellmanFord, Method::SortedBellmanFord];
+    let pairs = (0..=128).flat_map(|m| edges.map(|method| (method, 1 + m % 32, m)));
+    let tables = (1..=32).map(|n| (Method::Dijkstra, n, 0));
     for (method, n, m) in pairs.chain(tables) {
         let header = Header {
-            method: [Method::BellmanFord, Method::Dijkstra][method - 1],
+            method,
             vertices: n,
             edges: m,
             source: n - 1,
@@ -440,6 +496,7 @@ fn sizes_of_headers() {
     let most = [
         (1, 128, [488, 1_060_837, 32, 32]),
         (2, 0, [1190, 44_227, 32, 32]),
+        (3, 128, [8_874, 437_222, 32, 32]),
     ];
     for (method, m, sizes) in most {
         assert_eq!(compare_sizes(&[pack(method, 32, m, 31)]), ran(0, sizes));
@@ -517,6 +574,53 @@ fn requests_at_the_edges() {
     assert_eq!(number(&[pack(1, 33, 0, 0)]), (2, None));
     assert_eq!(number(&[pack(1, 1, 129, 0)]), (3, None));
     assert_eq!(number(&[]), (1, None));
+}
+
+/// Ties, what each pass reads, and the order of the edges.
+#[test]
+fn requests_of_method_3() {
+    let solved_edges = |n: u64, edges: &[u64]| {
+        let header = pack(3, n, edges.len() as u64, 0);
+        let (_, distances, parents) = solved(&[&[header], edges].concat());
+        (distances, parents)
+    };
+    // Equal offers, and the lowest of their edges is not the first edge.
+    let tied = [5, 4, 4].map(|weight| edge_word(0, 1, weight));
+    assert_eq!(
+        solved_edges(2, &tied),
+        (vec![Some(0), Some(4)], vec![None, Some(1)])
+    );
+    // Edge 2 offers what edge 1 offers, but a pass earlier; in method 1 it does not.
+    let ahead = [edge_word(0, 1, 1), edge_word(1, 2, 1), edge_word(0, 2, 2)];
+    let reached = vec![Some(0), Some(1), Some(2)];
+    assert_eq!(
+        solved_edges(3, &ahead),
+        (reached.clone(), vec![None, Some(0), Some(2)])
+    );
+    let in_order = solved(&[&[pack(1, 3, 3, 0)], &ahead[..]].concat());
+    assert_eq!(in_order.1, reached);
+    assert_eq!(in_order.2, vec![None, Some(0), Some(1)]);
+    // Rebates from unreached vertices are no offers.
+    let apart = [edge_word(2, 1, -1), edge_word(1, 2, -1)];
+    assert_eq!(solved_edges(3, &apart).0, [Some(0), None, None]);
+    let empty = vukstaja::solve(&[pack(3, 1, 0, 0)]).expect("no edges run");
+    assert_eq!((empty.report.rounds, empty.log.len()), (15, 12));
+    let lone = pack(3, 1, 1, 0);
+    assert_eq!(number(&[lone, edge_word(0, 0, -1)]), (12, None));
+    assert_eq!(number(&[lone, edge_word(0, 0, 1_000_001)]), (11, Some(0)));
+    // An edge is compared with the one before it, after its weight.
+    let unsorted = |heads: [u64; 3], weight: i64| {
+        let words = heads.map(|head| edge_word(0, head, weight));
+        number(&[&[pack(3, 3, 3, 0)], &words[..]].concat())
+    };
+    assert_eq!(unsorted([1, 0, 0], 5), (15, Some(1)));
+    assert_eq!(unsorted([0, 2, 1], 5), (15, Some(2)));
+    assert_eq!(unsorted([0, 2, 1], 1_000_001), (11, Some(0)));
+    let dear = [edge_word(0, 1, 5), edge_word(0, 0, -1_000_001)];
+    assert_eq!(
+        number(&[&[pack(3, 2, 2, 0)], &dear[..]].concat()),
+        (11, Some(1))
+    );
 }
 
 #[test]

@@ -1,4 +1,5 @@
-/* The four calls from C: the printed request of the rules, its sizes, its plan, the plan run from outside, and refusals. */
+/* The four calls from C: the printed request of the rules, its sizes, its plan, the plan run from outside, a request of
+ * method 3, and refusals. */
 #include <inttypes.h>
 #include <stdio.h>
 #include <stdlib.h>
@@ -65,12 +66,11 @@ static void run(const uint64_t *request, size_t length, struct buffers *lent, vu
                  lent->distances, lent->distances_length, lent->parents, lent->parents_length, answer);
 }
 
-static void run_request(void)
+static void run_request(const uint64_t *request, size_t length)
 {
-    const uint64_t request[] = {0x1000020000100000, 0x00010000FFFFFFFB};
     struct buffers lent = made_for(request[0]);
     vukstaja_answer answer;
-    run(request, 2, &lent, &answer);
+    run(request, length, &lent, &answer);
     print_answer("run", answer);
     for (size_t v = 0; v < lent.distances_length; v++)
         printf("%zu %" PRId64 " %" PRId64 "\n", v, lent.distances[v], lent.parents[v]);
@@ -99,7 +99,7 @@ static void run_written_plan(void)
 static void be_refused(void)
 {
     uint64_t request[] = {0x1000010000100000, 0x00000000000F4241};
-    const uint64_t unknown[] = {0x3000010000000000};
+    const uint64_t unknown[] = {0x0000010000000000};
     struct buffers lent = made_for(request[0]);
     vukstaja_answer answer;
     run(request, 2, &lent, &answer);
@@ -111,14 +111,28 @@ static void be_refused(void)
     run(request, 2, &lent, &answer);
     print_answer("a log one word short", answer);
     vukstaja_sizes(unknown, 1, &answer);
-    print_answer("sizes of method 3", answer);
+    print_answer("sizes of method 0", answer);
+    give_back(&lent);
+}
+
+static void be_refused_unsorted(void)
+{
+    const uint64_t request[] = {0x3000020000200000, 0x0001000000000000, 0x0000000000000000};
+    struct buffers lent = made_for(request[0]);
+    vukstaja_answer answer;
+    run(request, 3, &lent, &answer);
+    print_answer("an edge to vertex 0 after one to vertex 1", answer);
     give_back(&lent);
 }
 
 int main(void)
 {
-    run_request();
+    const uint64_t printed[] = {0x1000020000100000, 0x00010000FFFFFFFB};
+    const uint64_t sorted[] = {0x3000030000300000, 0x0001000000000007, 0x02010000FFFFFFFC, 0x0002000000000009};
+    run_request(printed, 2);
     run_written_plan();
+    run_request(sorted, 4);
     be_refused();
+    be_refused_unsorted();
     return 0;
 }

@@ -4,6 +4,10 @@ Every combination of a lane's faults and of a table word's, in the first, a
 middle and the last word of a request whose other words are without a fault.
 What is printed is also told here, from the combination alone: the first fault
 in the order of the rules, with the word's place.
+
+Then requests just within the desk's bank and log and just beyond, each without
+a fault and with one in its last word, which is told where the buffers are
+enough.
 """
 
 import subprocess
@@ -14,31 +18,66 @@ from pathlib import Path
 sys.path.insert(0, str(Path(__file__).resolve().parents[1] / "model"))
 
 import model
+from model import Header, Refusal
+
+TO_YARD_1 = 1 << 48
+SPARE_BIT = 1 << 32
 
 # The faults of a word in the order in which they are told: number, right, wrong.
-LANE = ((10, 0, 0x8000 << 32), (13, 1 << 56, 2 << 56), (14, 1 << 48, 2 << 48),
-        (11, 1_000_000, 1_000_001))
+# A lane that is not sorted has a to-yard of 0 after a lane to yard 1.
+LANE = ((10, 0, 0x8000 << 32), (13, 1 << 56, 2 << 56),
+        (14, TO_YARD_1, 2 * TO_YARD_1), (11, 1_000_000, 1_000_001))
 ENTRY = ((10, 0, 1 << 63), (11, 0xFFFFFFFF, 0xFFFFFFFE))
+SORTED_LANE = (*LANE, (15, 0, -TO_YARD_1))
+
+# Method, yards, lanes and, if any, the number told of the desk's buffers.
+SIZES = ((1, 2, 128, None), (1, 3, 102, None), (1, 3, 103, 7),
+         (2, 16, 0, None), (2, 17, 0, 7),
+         (3, 2, 128, None), (3, 3, 116, None), (3, 3, 117, 6),
+         (3, 4, 93, None), (3, 4, 94, 7), (3, 4, 96, 7), (3, 4, 97, 6),
+         (3, 32, 1, None), (3, 32, 15, 7), (3, 32, 16, 6), (3, 32, 128, 6))
 
 
-def faulty_words(fields):
-    """The word of each combination of faults, and the number that is told."""
+def possible(numbers, place):
+    """Whether the word at a place can have all these faults.
+
+    Only a to-yard that is there is below another, and only after a first lane.
+    """
+    return 15 not in numbers or (14 not in numbers and place > 0)
+
+
+def faulty_words(fields, place):
+    """The word of each combination of faults, and the refusal that is told."""
     for chosen in product((False, True), repeat=len(fields)):
         word = sum(wrong if bad else right
                    for bad, (_, right, wrong) in zip(chosen, fields))
         told = [field[0] for bad, field in zip(chosen, fields) if bad]
-        yield word, told[0] if told else None
+        if possible(told, place):
+            yield word, Refusal(told[0], place) if told else None
 
 
-def requests():
-    """Each request, and its refusal's number and place, if any."""
-    for header, count, fields in ((0x1000020000400000, 4, LANE),
-                                  (0x2000020000000000, 4, ENTRY)):
-        for place in (0, 2, count - 1):
-            for word, number in faulty_words(fields):
-                words = [0] * count
+def faulty_requests():
+    """Each request with a combination of faults, and its refusal, if any."""
+    for header, fields in ((Header(1, 2, 4, 0), LANE),
+                           (Header(2, 2, 0, 0), ENTRY),
+                           (Header(3, 2, 4, 0), SORTED_LANE)):
+        other = 0 if fields is ENTRY else TO_YARD_1
+        for place in (0, 2, 3):
+            for word, refusal in faulty_words(fields, place):
+                words = [other if at + 1 >= place else 0 for at in range(4)]
                 words[place] = word
-                yield [header, *words], number, place
+                yield header, words, refusal
+
+
+def sized_requests():
+    """Each request of a chosen size, and its refusal, if any."""
+    for *public, number in SIZES:
+        header = Header(*public, 0)
+        count = model.words_expected(header)
+        too_large = Refusal(number) if number else None
+        yield header, [0] * count, too_large
+        yield (header, [0] * (count - 1) + [SPARE_BIT],
+               too_large or Refusal(10, count - 1))
 
 
 def printed(program, sent):
@@ -49,15 +88,15 @@ def printed(program, sent):
 
 def main(program):
     count = 0
-    for words, number, place in requests():
-        sent = b"".join(word.to_bytes(8, "big") for word in words)
+    for header, words, refusal in (*faulty_requests(), *sized_requests()):
+        sent = b"".join(word.to_bytes(8, "big")
+                        for word in (model.join_header(header), *words))
         lines = printed(program, sent)
         told = model.desk_lines(sent)
-        refusal = f"refused {number} {place}"
-        if lines != told or (number is not None and lines != [refusal]):
+        if lines != told or (refusal and lines != [model.refusal_line(refusal)]):
             sys.exit(f"desk: {sent.hex()}\n  model:   {told}\n  program: {lines}")
         count += 1
-    print(f"desk: {count} requests with chosen faults agree")
+    print(f"desk: {count} requests with chosen faults and sizes agree")
 
 
 if __name__ == "__main__":

@@ -13,7 +13,7 @@ import model
 
 CRATE = Path(__file__).resolve().parents[2] / "crates" / "cases"
 STATEMENT = re.compile(
-    r"let mut (?P<array>\w+) = \[(?P<fill>\d+)u64; (?P<count>\d+)\];"
+    r"let mut (?P<array>\w+) = \[(?P<fill>\w+?)u64; (?P<count>\d+)\];"
     r"|(?P<changed>\w+)\[(?P<place>\d+)\] = (?P<word>\w+);"
     r'|send\(\s*b"(?P<name>[^"]*)",\s*&(?P<words>\[[^\]]*\]|\w+),'
     r"\s*(?P<size>\d+),?\s*\);")
@@ -24,7 +24,8 @@ def requests(source):
     arrays = {}
     for found in STATEMENT.finditer(source):
         if found["array"]:
-            arrays[found["array"]] = [int(found["fill"])] * int(found["count"])
+            fill, count = int(found["fill"], 0), int(found["count"])
+            arrays[found["array"]] = [fill] * count
         elif found["changed"]:
             words = arrays[found["changed"]]
             words[int(found["place"])] = int(found["word"], 0)

@@ -1,6 +1,6 @@
 """The expected figures of the larger networks.
 
-Prints a block for each of five cases.  The first line of a block is
+Prints a block for each of eight cases.  The first line of a block is
 
     method yards lanes source rounds length verdict checksum
 
@@ -20,7 +20,7 @@ beginning with x = its seed:
 
 Draws are made in the order in which they are written below, and only where
 they are written.  All cases have 32 yards, numbered v; those of method 1 have
-60 lanes, numbered i and built upward from 0.
+60 lanes, those of method 3 have 128, numbered i and built upward from 0.
 
 Case a: method 1, source 0, seed 252.
     h(v)  = (373 * v + 500) mod 1009
@@ -50,13 +50,33 @@ and v the column (to-yard), both draws made for every entry:
 Case e: method 2, source 31, seed 5.  By rows as in case d:
     g = u - v where u > v, else v - u
     price = g * g + draw(4)
+
+Case f: method 3, source 0, seed 577.  The h and price of case a; to = i / 4.
+    i mod 4 = 0:  from = to - 1, but 31 where to is 0; base = draw(30)
+    else:         from = draw(32), base = 100 + draw(400)
+
+Case g: method 3, source 0, seed 2.  The same h, price and to.
+    i mod 4 = 0:  from = to - 1, but 31 where to is 0; base = 0, but -1 there
+    else:         from = draw(32), base = 1 + draw(400)
+
+Case h: method 3, source 5, seed 282.  The h of case c.
+    i < 96:   to = i / 4
+              i mod 4 = 0:  from = to - 1, but to + 2 where to mod 3 is 0
+                            base = 0
+                            price = base + h(to) - h(from), which is 0
+              else:         from = draw(32)
+                            from < 24:   base = draw(3)
+                                         price = base + h(to) - h(from)
+                            from >= 24:  price = -1 - draw(3)
+    i >= 96:  to = 24 + (i - 96) / 8 * 2, from = 24 + draw(8)
+              price = -1 - draw(3)
 """
 
 import model
 import network
 
 YARDS = 32
-LANES = 60
+LANES = {1: 60, 3: 128}
 CHECKSUM_FACTOR = 31
 CHECKSUM_MODULUS = 1_000_000_007
 
@@ -82,12 +102,12 @@ def raised(height, origin, target, base):
 
 
 def steep(v):
-    """The height of a yard in cases a and b."""
+    """The height of a yard in cases a, b, f and g."""
     return (373 * v + 500) % 1009
 
 
 def stepped(v):
-    """The height of a yard in case c, the same for every three yards."""
+    """The height of a yard in cases c and h, the same for every three."""
     return v // 3 * 7 % 11
 
 
@@ -103,10 +123,17 @@ def lane_of_case_b(draws, i):
     """A loss circle of total -1 through every yard, and no other."""
     if i < YARDS - 1:
         return raised(steep, 30 - i, 31 - i, 0)
-    if i == LANES - 1:
+    if i == LANES[1] - 1:
         return raised(steep, 31, 0, -1)
     origin, target = draws.below(YARDS), draws.below(YARDS)
     return raised(steep, origin, target, 1 + draws.below(400))
+
+
+def reached_or_rebate(draws, origin, target):
+    """A lane between yards that are reached, or a rebate from another yard."""
+    if origin < 24:
+        return raised(stepped, origin, target, draws.below(3))
+    return origin, target, -1 - draws.below(3)
 
 
 def lane_of_case_c(draws, i):
@@ -114,11 +141,8 @@ def lane_of_case_c(draws, i):
     if i < 12:
         return raised(stepped, i, i - 2 if i % 3 == 2 else i + 1, 0)
     origin = draws.below(YARDS)
-    if origin < 24:
-        target = draws.below(24)
-        return raised(stepped, origin, target, draws.below(3))
-    target = draws.below(YARDS)
-    return origin, target, -1 - draws.below(3)
+    target = draws.below(24 if origin < 24 else YARDS)
+    return reached_or_rebate(draws, origin, target)
 
 
 def price_of_case_d(draws, u, v):
@@ -133,11 +157,41 @@ def price_of_case_e(draws, u, v):
     return gap * gap + draws.below(4)
 
 
-def lane_network(source, seed, lane_of):
-    """A network of method 1 whose lanes follow a case's rule."""
+def lane_of_case_f(draws, i):
+    """A circle through all yards, and to each three lanes from anywhere."""
+    target = i // 4
+    if i % 4 == 0:
+        return raised(steep, (target + 31) % YARDS, target, draws.below(30))
+    origin = draws.below(YARDS)
+    return raised(steep, origin, target, 100 + draws.below(400))
+
+
+def lane_of_case_g(draws, i):
+    """The same circle with a loss of 1, and no other."""
+    target = i // 4
+    if i % 4 == 0:
+        return raised(steep, (target + 31) % YARDS, target, -(target == 0))
+    origin = draws.below(YARDS)
+    return raised(steep, origin, target, 1 + draws.below(400))
+
+
+def lane_of_case_h(draws, i):
+    """As case c, sorted; to four of the unreached yards there is no lane."""
+    if i >= 96:
+        return reached_or_rebate(draws, 24 + draws.below(8),
+                                 24 + (i - 96) // 8 * 2)
+    target = i // 4
+    if i % 4 == 0:
+        origin = target + 2 if target % 3 == 0 else target - 1
+        return raised(stepped, origin, target, 0)
+    return reached_or_rebate(draws, draws.below(YARDS), target)
+
+
+def lane_network(method, source, seed, lane_of):
+    """A network whose lanes follow a case's rule."""
     draws = Draws(seed)
-    lanes = [lane_of(draws, i) for i in range(LANES)]
-    return network.Network(1, YARDS, source, lanes)
+    lanes = [lane_of(draws, i) for i in range(LANES[method])]
+    return network.Network(method, YARDS, source, lanes)
 
 
 def table_network(source, seed, price_of):
@@ -150,12 +204,15 @@ def table_network(source, seed, price_of):
 
 
 def networks():
-    """The networks of the five cases in order."""
-    return [lane_network(0, 252, lane_of_case_a),
-            lane_network(0, 2, lane_of_case_b),
-            lane_network(5, 110, lane_of_case_c),
+    """The networks of the eight cases in order."""
+    return [lane_network(1, 0, 252, lane_of_case_a),
+            lane_network(1, 0, 2, lane_of_case_b),
+            lane_network(1, 5, 110, lane_of_case_c),
             table_network(0, 4, price_of_case_d),
-            table_network(31, 5, price_of_case_e)]
+            table_network(31, 5, price_of_case_e),
+            lane_network(3, 0, 577, lane_of_case_f),
+            lane_network(3, 0, 2, lane_of_case_g),
+            lane_network(3, 5, 282, lane_of_case_h)]
 
 
 def checksum(log):

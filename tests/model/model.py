@@ -37,8 +37,12 @@ Refusal = namedtuple("Refusal", "number place", defaults=(None,))
 RequestRan = namedtuple("RequestRan", "rounds log_length verdict")
 PlanRan = namedtuple("PlanRan", "rounds log_length")
 PlanWritten = namedtuple("PlanWritten", "length")
-Cells1 = namedtuple("Cells1", "origin target price D P Y X total")
-Cells2 = namedtuple("Cells2", "U D P Y O R X total")
+Cells1 = namedtuple("Cells1", "origin target price D P Y X verdict total")
+Cells2 = namedtuple("Cells2", "U D P Y O R X verdict total")
+Cells3 = namedtuple(
+    "Cells3", "origin B target price D P Y N Q X S F T verdict total")
+Form = namedtuple("Form", "most_lanes word_count strips")
+Method = namedtuple("Method", "form word_refusal cells plan length")
 
 
 # Words and their fields
@@ -83,13 +87,13 @@ def split_header(word):
 
 
 def join_lane(lane):
-    """The lane word of method 1."""
+    """The lane word of methods 1 and 3."""
     fields = lane._replace(price=to_unsigned(lane.price, PRICE_BITS))
     return join_fields(fields, LANE_WIDTHS)
 
 
 def split_lane(word):
-    """The lane of a lane word of method 1."""
+    """The lane of a lane word of methods 1 and 3."""
     lane = Lane(*split_fields(word, LANE_WIDTHS))
     return lane._replace(price=to_signed(lane.price, PRICE_BITS))
 
@@ -116,13 +120,14 @@ def split_operation(word):
     return Operation(*split_fields(word, OPERATION_WIDTHS))
 
 
-# Places of the cells, lengths of plan and log
+# Places of the cells: `verdict` is the cell that is opened, None without one
 
 def cells_of_method_1(header):
     """Where the cells of method 1 lie, and how many there are."""
     n, m = header.yards, header.lanes
     return Cells1(origin=0, target=m, price=2 * m, D=3 * m, P=3 * m + n,
-                  Y=3 * m + 2 * n, X=3 * m + 3 * n, total=3 * m + 3 * n + 8)
+                  Y=3 * m + 2 * n, X=3 * m + 3 * n,
+                  verdict=3 * m + 3 * n + 7, total=3 * m + 3 * n + 8)
 
 
 def cells_of_method_2(header):
@@ -130,27 +135,19 @@ def cells_of_method_2(header):
     n = header.yards
     table = n * n
     return Cells2(U=0, D=table, P=table + n, Y=table + 2 * n, O=table + 3 * n,
-                  R=table + 4 * n, X=table + 5 * n, total=table + 5 * n + 6)
+                  R=table + 4 * n, X=table + 5 * n, verdict=None,
+                  total=table + 5 * n + 6)
 
 
-def cells_of(header):
-    """Where the cells of the header's method lie."""
-    if header.method == 1:
-        return cells_of_method_1(header)
-    return cells_of_method_2(header)
-
-
-def plan_length(header):
-    """The words of a plan, its header counted."""
+def cells_of_method_3(header):
+    """Where the cells of method 3 lie, and how many there are."""
     n, m = header.yards, header.lanes
-    if header.method == 1:
-        return 3 * n + 4 + m * (8 * n * n + 3 * n - 1)
-    return n ** 3 + 11 * n * n + 6 * n + 3
-
-
-def log_length(header):
-    """The words of a request's log: its plan and the published cells."""
-    return plan_length(header) + (1 if header.method == 1 else 0)
+    X = 3 * m + 5 * n + 1
+    F = 4 * m + 5 * n + 10
+    return Cells3(origin=0, B=m, target=m + 1, price=2 * m + 1, D=3 * m + 1,
+                  P=3 * m + n + 1, Y=3 * m + 2 * n + 1, N=3 * m + 3 * n + 1,
+                  Q=3 * m + 4 * n + 1, X=X, S=X + 9, F=F, T=F + n * m,
+                  verdict=X + 8, total=F + 2 * n * m)
 
 
 # The plans
@@ -162,7 +159,7 @@ def set_to(d, number):
 
 
 def open_yard(header, cells, v):
-    """The SETs of Y+v, D+v and P+v that both methods begin with."""
+    """The SETs of Y+v, D+v and P+v that every method begins with."""
     return [set_to(cells.Y + v, v),
             set_to(cells.D + v, 0 if v == header.source else FAR),
             set_to(cells.P + v, -1)]
@@ -229,7 +226,7 @@ def plan_of_method_1(header):
             yield from relax_lane(cells, n, i)
     for i in range(m):
         yield from check_lane(cells, n, i)
-    yield OPEN, 0, cells.X + 7, 0
+    yield OPEN, 0, cells.verdict, 0
 
 
 def choose_yard(cells, n):
@@ -283,11 +280,178 @@ def plan_of_method_2(header):
         yield from relax_row(cells, n)
 
 
+def mark_lane(cells, n, i):
+    """To S+i whether lane i begins a segment, to F and T which yards it joins.
+
+    The cell before the first to-yard is B.
+    """
+    operations = [(LESS, cells.S + i, cells.target + i - 1, cells.target + i)]
+    for v in range(n):
+        operations += [
+            (EQUAL, cells.F + i * n + v, cells.origin + i, cells.Y + v),
+            (EQUAL, cells.T + i * n + v, cells.target + i, cells.Y + v)]
+    return operations
+
+
+def weigh_lane(cells, n, i):
+    """The segment's least offer so far to X+6, to X+5 whether lane i's is."""
+    X = cells.X
+    operations = [(COPY, X + 1, X, 0)]
+    operations += [(MOVEIF, X + 1, cells.F + i * n + v, cells.D + v)
+                   for v in range(n)]
+    return operations + try_lane(cells, i) + [
+        (MOVEIF, X + 6, cells.S + i, X),
+        (LESS, X + 5, X + 2, X + 6),
+        (BOTH, X + 5, X + 5, X + 4),
+        (MOVEIF, X + 6, X + 5, X + 2)]
+
+
+def offer_lane(cells, n, i):
+    """Lane i in one of the n-1 passes of method 3."""
+    X = cells.X
+    operations = weigh_lane(cells, n, i)
+    operations += [set_to(X + 3, i), (MOVEIF, X + 7, X + 5, X + 3)]
+    for v in range(n):
+        operations += [(MOVEIF, cells.N + v, cells.T + i * n + v, X + 6),
+                       (MOVEIF, cells.Q + v, cells.T + i * n + v, X + 7)]
+    return operations
+
+
+def offer_checked_lane(cells, n, i):
+    """Lane i in the check of method 3."""
+    X = cells.X
+    return weigh_lane(cells, n, i) + [
+        (MOVEIF, cells.N + v, cells.T + i * n + v, X + 6) for v in range(n)]
+
+
+def gains(cells, v):
+    """To X+5 whether the least offer to yard v betters its distance."""
+    return LESS, cells.X + 5, cells.N + v, cells.D + v
+
+
+def plan_of_method_3(header):
+    """The operations of method 3 in order, as (op, d, a, b)."""
+    n, m = header.yards, header.lanes
+    cells = cells_of_method_3(header)
+    X = cells.X
+    for v in range(n):
+        yield from open_yard(header, cells, v)
+        yield set_to(cells.N + v, FAR)
+    yield set_to(X, FAR)
+    yield set_to(X + 8, 0)
+    yield set_to(cells.B, -1)
+    for i in range(m):
+        yield from mark_lane(cells, n, i)
+    for _ in range(n - 1):
+        for i in range(m):
+            yield from offer_lane(cells, n, i)
+        for v in range(n):
+            yield gains(cells, v)
+            yield MOVEIF, cells.D + v, X + 5, cells.N + v
+            yield MOVEIF, cells.P + v, X + 5, cells.Q + v
+    for i in range(m):
+        yield from offer_checked_lane(cells, n, i)
+    for v in range(n):
+        yield gains(cells, v)
+        yield MOVEIF, X + 8, X + 5, X + 5
+    yield OPEN, 0, cells.verdict, 0
+
+
+# The words after the header: their tests, and the cells they fill
+
+def lane_refusal(header, inputs, place):
+    """The first of refusals 10, 13, 14 and 11 of one lane word, or None."""
+    lane = split_lane(inputs[place])
+    if lane.spare != 0:
+        return Refusal(10, place)
+    if lane.origin >= header.yards:
+        return Refusal(13, place)
+    if lane.target >= header.yards:
+        return Refusal(14, place)
+    if not -HIGHEST_PRICE <= lane.price <= HIGHEST_PRICE:
+        return Refusal(11, place)
+    return None
+
+
+def sorted_lane_refusal(header, inputs, place):
+    """The first refusal of a lane word in method 3, 15 the last, or None."""
+    refusal = lane_refusal(header, inputs, place)
+    if refusal or place == 0:
+        return refusal
+    before, lane = (split_lane(word) for word in inputs[place - 1:place + 1])
+    return Refusal(15, place) if lane.target < before.target else None
+
+
+def table_refusal(_, inputs, place):
+    """The first of refusals 10 and 11 of one table word, or None."""
+    entry = split_table_entry(inputs[place])
+    if entry.spare != 0:
+        return Refusal(10, place)
+    if not -1 <= entry.price <= HIGHEST_PRICE:
+        return Refusal(11, place)
+    return None
+
+
+def lane_strips(cells, inputs):
+    """The first cell of each field of the lanes, and what is laid from it."""
+    lanes = [split_lane(word) for word in inputs]
+    return [(cells.origin, [lane.origin for lane in lanes]),
+            (cells.target, [lane.target for lane in lanes]),
+            (cells.price, [lane.price for lane in lanes])]
+
+
+def table_strips(cells, inputs):
+    """The first cell of the table, and what is laid from it."""
+    prices = [split_table_entry(word).price for word in inputs]
+    return [(cells.U, [FAR if price == -1 else price for price in prices])]
+
+
+# What differs by method: how its network is given, the test of a word after
+# the header, the places of the cells, the plan, and its length from n and m.
+# How a network is given: the limit of m, how many words follow the header, and
+# where they are laid.
+
+LANES = Form(MOST_LANES, lambda header: header.lanes, lane_strips)
+TABLE = Form(0, lambda header: header.yards ** 2, table_strips)
+METHODS = {
+    1: Method(LANES, lane_refusal, cells_of_method_1, plan_of_method_1,
+              lambda n, m: 3 * n + 4 + m * (8 * n * n + 3 * n - 1)),
+    2: Method(TABLE, table_refusal, cells_of_method_2, plan_of_method_2,
+              lambda n, m: n ** 3 + 11 * n * n + 6 * n + 3),
+    3: Method(LANES, sorted_lane_refusal, cells_of_method_3, plan_of_method_3,
+              lambda n, m: (3 * n * n + 3 * n + 5
+                            + m * (3 * n * n + 10 * n - 1))),
+}
+
+
+def form_of(method):
+    """How a method's network is given, LANES or TABLE."""
+    return METHODS[method].form
+
+
+def words_expected(header):
+    """How many words follow the header of a request."""
+    return form_of(header.method).word_count(header)
+
+
+def cells_of(header):
+    """Where the cells of the header's method lie."""
+    return METHODS[header.method].cells(header)
+
+
+def plan_length(header):
+    """The words of a plan, its header counted."""
+    return METHODS[header.method].length(header.yards, header.lanes)
+
+
+def log_length(header):
+    """The words of a request's log: its plan and the published cells."""
+    return plan_length(header) + (cells_of(header).verdict is not None)
+
+
 def plan_operations(header):
     """The operations of the header's plan, as (op, d, a, b)."""
-    if header.method == 1:
-        return plan_of_method_1(header)
-    return plan_of_method_2(header)
+    return METHODS[header.method].plan(header)
 
 
 def plan_words(header):
@@ -378,20 +542,15 @@ def header_refusal(words):
     if not words:
         return Refusal(1)
     header = split_header(words[0])
-    if header.method not in (1, 2):
+    if header.method not in METHODS:
         return Refusal(1)
     if not 1 <= header.yards <= MOST_YARDS:
         return Refusal(2)
-    if header.lanes > (MOST_LANES if header.method == 1 else 0):
+    if header.lanes > form_of(header.method).most_lanes:
         return Refusal(3)
     if header.source >= header.yards:
         return Refusal(4)
     return None
-
-
-def words_expected(header):
-    """How many words follow the header of a request."""
-    return header.lanes if header.method == 1 else header.yards ** 2
 
 
 def buffer_refusal(header, word_count, lent):
@@ -407,40 +566,12 @@ def buffer_refusal(header, word_count, lent):
     return None
 
 
-def lane_refusal(header, place, word):
-    """The first of refusals 10, 13, 14 and 11 of one lane word, or None."""
-    lane = split_lane(word)
-    if lane.spare != 0:
-        return Refusal(10, place)
-    if lane.origin >= header.yards:
-        return Refusal(13, place)
-    if lane.target >= header.yards:
-        return Refusal(14, place)
-    if not -HIGHEST_PRICE <= lane.price <= HIGHEST_PRICE:
-        return Refusal(11, place)
-    return None
-
-
-def table_refusal(place, word):
-    """The first of refusals 10 and 11 of one table word, or None."""
-    entry = split_table_entry(word)
-    if entry.spare != 0:
-        return Refusal(10, place)
-    if not -1 <= entry.price <= HIGHEST_PRICE:
-        return Refusal(11, place)
-    return None
-
-
 def input_refusal(header, inputs):
     """The refusal of the lowest input word that has one, or None."""
-    for place, word in enumerate(inputs):
-        if header.method == 1:
-            refusal = lane_refusal(header, place, word)
-        else:
-            refusal = table_refusal(place, word)
-        if refusal:
-            return refusal
-    return None
+    refusal_of = METHODS[header.method].word_refusal
+    refusals = (refusal_of(header, inputs, place)
+                for place in range(len(inputs)))
+    return next(filter(None, refusals), None)
 
 
 def request_refusal(words, lent):
@@ -490,20 +621,17 @@ def foreign_refusal(plan, cell_count, log_words):
 def intake(words):
     """The needed cells as the request's words fill them, the rest of them 0."""
     header, inputs = split_header(words[0]), words[1:]
-    if header.method == 1:
-        lanes = [split_lane(word) for word in inputs]
-        filled = ([lane.origin for lane in lanes]
-                  + [lane.target for lane in lanes]
-                  + [lane.price for lane in lanes])
-    else:
-        prices = [split_table_entry(word).price for word in inputs]
-        filled = [FAR if price == -1 else price for price in prices]
-    return filled + [0] * (cells_of(header).total - len(filled))
+    where = cells_of(header)
+    cells = [0] * where.total
+    for first, numbers in form_of(header.method).strips(where, inputs):
+        cells[first:first + len(numbers)] = numbers
+    return cells
 
 
 def verdict_of(header, cells):
     """The verdict a run left in the cells."""
-    return cells[cells_of_method_1(header).X + 7] if header.method == 1 else 0
+    opened = cells_of(header).verdict
+    return 0 if opened is None else cells[opened]
 
 
 def run_request(words, cells, log, distances, parents):

@@ -1,7 +1,8 @@
 """Networks as plain lanes, their request words, and their runs in the model.
 
 A network's lanes are triples (from-yard, to-yard, price).  In method 2 no two
-of them join the same yards in the same direction.
+of them join the same yards in the same direction; in method 3 they are sorted
+by to-yard.
 """
 
 from collections import namedtuple
@@ -13,15 +14,20 @@ Network = namedtuple("Network", "method yards source lanes")
 Run = namedtuple("Run", "answer start cells log distances parents")
 
 
+def has_lanes(network):
+    """Whether a network's request has a word for each lane, and no table."""
+    return model.form_of(network.method) is model.LANES
+
+
 def header_of(network):
     """The header of a network's request."""
-    lanes = len(network.lanes) if network.method == 1 else 0
+    lanes = len(network.lanes) if has_lanes(network) else 0
     return model.Header(network.method, network.yards, lanes, network.source)
 
 
 def input_words(network):
     """The words after the header of a network's request."""
-    if network.method == 1:
+    if has_lanes(network):
         return [model.join_lane(model.Lane(origin, target, 0, price))
                 for origin, target, price in network.lanes]
     prices = {(origin, target): price
@@ -56,22 +62,43 @@ def run(network, surplus=0, lent=0):
 def walk_distances(network):
     """Distances and loss circle by the second computation."""
     n, lanes, source = network.yards, network.lanes, network.source
-    if network.method == 1:
+    if has_lanes(network):
         return walks.bellman_ford(n, lanes, source)
     return walks.dijkstra(n, lanes, source), False
 
 
 def last_lanes(network, parents):
     """The lane each yard's parent stands for, or None."""
-    if network.method == 1:
+    if has_lanes(network):
         return [None if parent == -1 else network.lanes[parent]
                 for parent in parents]
     joined = {lane[:2]: lane for lane in network.lanes}
     return [joined.get((parent, v)) for v, parent in enumerate(parents)]
 
 
+def marked(values, mark):
+    """The values, with a mark for None."""
+    return [mark if value is None else value for value in values]
+
+
+def agrees_with_passes(network, finished):
+    """Whether a run of method 3 left what its passes over the yards leave.
+
+    The cells are looked at, which a loss circle leaves as well.
+    """
+    n, where = network.yards, model.cells_of(header_of(network))
+    distances, numbers, gains = walks.synchronous(n, network.lanes,
+                                                  network.source)
+    return (finished.answer.verdict == int(gains)
+            and finished.cells[where.D:where.D + n]
+            == marked(distances, model.FAR)
+            and finished.cells[where.P:where.P + n] == marked(numbers, -1))
+
+
 def agrees_with_walks(network, finished):
     """Whether a run's verdict, distances and parents are the right ones."""
+    if network.method == 3 and not agrees_with_passes(network, finished):
+        return False
     distances, loss_circle = walk_distances(network)
     if finished.answer.verdict != int(loss_circle):
         return False

@@ -1,11 +1,13 @@
 """Holds the model against the rules and against the second computation."""
 
 import random
+from collections import Counter
 
 import figures
 import model
 import network
 import spelled
+import walks
 from model import (ADD, COPY, FAR, OPEN, SET, Header, Lane, Lent, PlanRan,
                    PlanWritten, Refusal, RequestRan, TableEntry)
 from network import Network
@@ -14,6 +16,9 @@ SEED = 20240117
 FIGURES_LOG_WORDS = 500_000
 RANDOM_PAIRS = 150
 RANDOM_PLANS = 150
+RANDOM_TIES = 60
+RANDOM_WALKS = 100
+LEAST_OF_A_SHAPE = 10
 SURPLUS = 3
 LENT = -7
 MOST_CELL = (1 << 63) - 1
@@ -23,6 +28,14 @@ PLAN_OF_ONE_YARD = [int(word, 16) for word in (
     " 0000034000000000 00000A0000000000 7000000000A00000").split()]
 PRINTED_REQUEST = bytes.fromhex("100002000010000000010000FFFFFFFB")
 PRINTED_LINES = ["1 2 1 0 112 0", "0 0 -", "1 -5 0"]
+
+# The rounds that the rules state, by method.
+ROUNDS_STATED = {
+    1: lambda n, m: 3 * n + 3 + m * (23 * n * n + 6 * n - 1),
+    2: lambda n, m: n ** 3 + 24 * n * n + 5 * n + 2,
+    3: lambda n, m: (8 * n * n + 3 * n + 4
+                     + m * (3 * n * n + 28 * n + 4)),
+}
 
 
 class Checks:
@@ -43,11 +56,8 @@ class Checks:
 
 
 def rounds_by_formula(header):
-    """The rounds document 01 states for a header."""
-    n, m = header.yards, header.lanes
-    if header.method == 1:
-        return 3 * n + 3 + m * (23 * n * n + 6 * n - 1)
-    return n ** 3 + 24 * n * n + 5 * n + 2
+    """The rounds the rules state for a header."""
+    return ROUNDS_STATED[header.method](header.yards, header.lanes)
 
 
 def answer_to(words):
@@ -132,6 +142,33 @@ def check_edge_cells(checks):
     checks.equal(cells, [-MOST_CELL - 1, 1], "row 11, cells")
 
 
+# Small requests of method 3
+
+def check_passes(checks):
+    """Runs of method 3: its ties, and what each pass reads."""
+    for lanes, distances, parents in (
+            # The lowest lane of equal offers, which is not the first lane.
+            ([(0, 1, 5), (0, 1, 4), (0, 1, 4)], [0, 4, FAR], [-1, 1, -1]),
+            # Yard 2 is offered 2 by lane 2 a pass earlier than by lane 1.
+            ([(0, 1, 1), (1, 2, 1), (0, 2, 2)], [0, 1, 2], [-1, 0, 2]),
+            # Yard 1 takes lane 0, and then lane 1, which is a strict gain.
+            ([(0, 1, 7), (2, 1, -4), (0, 2, 9)], [0, 5, 9], [-1, 1, 2]),
+            # FAR and a rebate is no offer.
+            ([(1, 1, -9), (2, 1, -9)], [0, FAR, FAR], [-1, -1, -1]),
+            # A circle of price 0 gives the source no parent.
+            ([(0, 0, 0), (1, 0, -3), (0, 1, 3)], [0, 3, FAR], [-1, 2, -1])):
+        finished = network.run(Network(3, 3, 0, lanes))
+        checks.equal(finished[4:], (distances, parents), f"passes of {lanes}")
+    before = network.run(Network(1, 3, 0, [(0, 1, 1), (1, 2, 1), (0, 2, 2)]))
+    checks.equal(before.parents, [-1, 0, 1], "the same lanes in method 1")
+    checks.equal(network.run(Network(3, 1, 0, [])).answer,
+                 RequestRan(15, 12, 0), "method 3, one yard and no lane")
+    for price, verdict in ((-1, 1), (0, 0), (1_000_000, 0)):
+        finished = network.run(Network(3, 1, 0, [(0, 0, price)]))
+        checks.equal(finished.answer, RequestRan(50, 24, verdict),
+                     f"method 3, a lane of {price} to its own yard")
+
+
 # Words, lengths and rounds
 
 def check_fields(checks):
@@ -167,37 +204,38 @@ def check_counted(checks, header):
 
 def check_lengths(checks):
     """Lengths and rounds by formula at the limits, by counting below."""
-    largest = Header(1, 32, 128, 0)
-    checks.equal(model.plan_length(largest), 1_060_836, "words at the limit")
-    checks.equal(model.log_length(largest), 1_060_837, "log at the limit")
-    checks.equal(rounds_by_formula(largest), 3_039_203, "rounds at the limit")
-    table = Header(2, 32, 0, 0)
-    checks.equal(model.plan_length(table), 44_227, "words of method 2")
-    checks.equal(rounds_by_formula(table), 57_506, "rounds of method 2")
-    checks.equal(model.cells_of(table).total, model.DESK_CELLS,
-                 "cells of method 2")
-    check_counted(checks, table)
+    for header, *stated in (
+            (Header(1, 32, 128, 0), 1_060_836, 1_060_837, 488, 3_039_203),
+            (Header(2, 32, 0, 0), 44_227, 44_227, model.DESK_CELLS, 57_506),
+            (Header(3, 32, 128, 0), 437_221, 437_222, 8_874, 516_708)):
+        checks.equal([model.plan_length(header), model.log_length(header),
+                      model.cells_of(header).total, rounds_by_formula(header)],
+                     stated, f"figures of {header}")
+    check_counted(checks, Header(2, 32, 0, 0))
+    check_counted(checks, Header(3, 32, 128, 31))
     for n in range(1, 9):
         check_counted(checks, Header(2, n, 0, n - 1))
         for m in range(5):
             check_counted(checks, Header(1, n, m, n - 1))
+            check_counted(checks, Header(3, n, m, n - 1))
 
 
 def check_spelled_plans(checks):
-    """The plans of two small headers, spelled out by hand."""
+    """The plans of three small headers, spelled out by hand."""
     for header, plan, places in (
             (Header(1, 2, 1, 0), spelled.PLAN_1, spelled.PLACES_1),
-            (Header(2, 2, 0, 1), spelled.PLAN_2, spelled.PLACES_2)):
+            (Header(2, 2, 0, 1), spelled.PLAN_2, spelled.PLACES_2),
+            (Header(3, 2, 2, 1), spelled.PLAN_3, spelled.PLACES_3)):
         checks.equal(list(model.plan_operations(header)),
                      spelled.operations(plan, places), f"plan of {header}")
 
 
 def check_figures_lanes(checks):
     """The figures' networks have as many lanes as their log allows."""
-    lengths = [model.log_length(Header(1, figures.YARDS, figures.LANES + more,
-                                       0)) for more in (0, 1)]
-    checks.holds(lengths[0] <= FIGURES_LOG_WORDS < lengths[1],
-                 "lanes of the figures")
+    for method, lanes in figures.LANES.items():
+        most = max(m for m in range(model.MOST_LANES + 1) if FIGURES_LOG_WORDS
+                   >= model.log_length(Header(method, figures.YARDS, m, 0)))
+        checks.equal(lanes, most, f"lanes of the figures, method {method}")
 
 
 # Refusals
@@ -240,21 +278,55 @@ def climb(checks, headers, inputs, enough, late_refusals):
                  "a request without faults runs")
 
 
-def check_order_method_1(checks):
-    """The refusals of method 1 before a run, in their order."""
-    headers = [Header(3, 33, 129, 33), Header(1, 33, 129, 33),
-               Header(1, 2, 129, 2), Header(1, 2, 2, 2), Header(1, 2, 2, 1)]
+def check_methods(checks):
+    """Which methods refusal 1 admits."""
+    admitted = [method for method in range(16)
+                if model.header_refusal([model.join_header(
+                    Header(method, 1, 0, 0))]) is None]
+    checks.equal(admitted, [1, 2, 3], "methods")
+
+
+def climb_lanes(checks, method, enough, unsorted):
+    """The refusals of a method with lanes before a run, in their order.
+
+    `unsorted` is there if the method refuses a second lane whose to-yard is
+    below the first one's: that refusal, and a lane that is right.
+    """
+    headers = [Header(15, 33, 129, 33), Header(method, 33, 129, 33),
+               Header(method, 2, 129, 2), Header(method, 2, 2, 2),
+               Header(method, 2, 2, 1)]
     dear, right = Lane(0, 1, 0, 1_000_001), Lane(0, 1, 0, 1_000_000)
-    lanes = [[dear], [dear, Lane(2, 2, 1, -1_000_001)],
-             [right, Lane(2, 2, 1, -1_000_001)],
-             [right, Lane(2, 2, 0, -1_000_001)],
-             [right, Lane(0, 2, 0, -1_000_001)],
-             [right, Lane(0, 1, 0, -1_000_001)],
-             [right, Lane(0, 1, 0, -1_000_000)]]
+    second = [Lane(2, 2, 1, -1_000_001), Lane(2, 2, 0, -1_000_001),
+              Lane(0, 2, 0, -1_000_001), Lane(0, 0, 0, -1_000_001),
+              Lane(0, 0, 0, -1_000_000), *unsorted.values()]
+    lanes = [[dear], [dear, second[0]], *([right, lane] for lane in second)]
     inputs = [[model.join_lane(lane) for lane in row] for row in lanes]
-    climb(checks, headers, inputs, Lent(20, 85, 2, 2),
+    climb(checks, headers, inputs, enough,
           [Refusal(11, 0), Refusal(10, 1), Refusal(13, 1), Refusal(14, 1),
-           Refusal(11, 1)])
+           Refusal(11, 1), *unsorted])
+
+
+def check_order_lanes(checks):
+    """The refusals of methods 1 and 3, in their order."""
+    climb_lanes(checks, 1, Lent(20, 85, 2, 2), {})
+    climb_lanes(checks, 3, Lent(36, 86, 2, 2),
+                {Refusal(15, 1): Lane(0, 1, 0, -1_000_000)})
+
+
+def check_sorted(checks):
+    """15 looks at the lane before alone, and lanes are tested one by one."""
+    to = [Lane(0, target, 0, 5) for target in range(3)]
+    spare = Lane(0, 0, 1, 5)
+    for lanes, refusal in (((to[0], to[2], to[1], to[2]), Refusal(15, 2)),
+                           ((to[2], to[1], to[0], to[0]), Refusal(15, 1)),
+                           ((to[1], to[1], to[2], to[0]), Refusal(15, 3)),
+                           ((to[1], to[0], spare), Refusal(15, 1)),
+                           ((to[1], spare, to[0]), Refusal(10, 1)),
+                           ((to[0], to[0], to[2], to[2]), None)):
+        answer = answer_to([model.join_header(Header(3, 3, len(lanes), 0)),
+                            *map(model.join_lane, lanes)])
+        checks.equal(answer if isinstance(answer, Refusal) else None, refusal,
+                     f"order of {lanes}")
 
 
 def check_order_method_2(checks):
@@ -294,16 +366,34 @@ def check_desk(checks):
                  "desk, method 2")
 
 
+def check_desk_method_3(checks):
+    """The desk's lines for method 3: its bank has too few cells for some."""
+    for n, m, line in ((2, 128, "3 2 128 0 9258 0"),
+                       (3, 116, "3 3 116 0 13425 0"), (3, 117, "refused 6"),
+                       (4, 93, "3 4 93 0 15396 0"), (4, 94, "refused 7"),
+                       (4, 96, "refused 7"), (4, 97, "refused 6"),
+                       (32, 1, "3 32 1 0 12264 0"), (32, 2, "refused 7"),
+                       (32, 15, "refused 7"), (32, 16, "refused 6")):
+        data = model.join_header(Header(3, n, m, 0)).to_bytes(8, "big")
+        checks.equal(model.desk_lines(data + bytes(8 * m))[0], line,
+                     f"desk, method 3, {n} yards and {m} lanes")
+    unsorted = "3000020000200000" + "0001000000000000" + "0000000000000000"
+    checks.equal(model.desk_lines(bytes.fromhex(unsorted)), ["refused 15 1"],
+                 "desk, lanes that are not sorted")
+
+
 def check_plan_writer(checks):
     """Plan writing and its refusals."""
-    refused = ((None, 1), (Header(3, 0, 0, 0), 1), (Header(1, 0, 129, 0), 2),
+    refused = ((None, 1), (Header(15, 0, 0, 0), 1), (Header(1, 0, 129, 0), 2),
                (Header(2, 1, 1, 1), 3), (Header(1, 1, 129, 1), 3),
-               (Header(1, 1, 128, 1), 4))
+               (Header(3, 1, 129, 1), 3), (Header(1, 1, 128, 1), 4),
+               (Header(3, 1, 128, 1), 4))
     for header, number in refused:
         words = [] if header is None else [model.join_header(header)]
         checks.equal(model.write_plan(words, []), Refusal(number),
                      "plan writer")
-    for header in (Header(1, 1, 0, 0), Header(1, 3, 2, 1), Header(2, 2, 0, 1)):
+    for header in (Header(1, 1, 0, 0), Header(1, 3, 2, 1), Header(2, 2, 0, 1),
+                   Header(3, 1, 0, 0), Header(3, 3, 2, 1)):
         words, length = [model.join_header(header)], model.plan_length(header)
         buffer = [LENT] * (length - 1)
         checks.equal(model.write_plan(words, buffer), Refusal(7),
@@ -423,10 +513,32 @@ def check_replay_ends(checks):
 # Random requests
 
 def random_lanes(rng, n, m, kind):
-    """Random lanes of method 1, of one of four kinds of prices."""
+    """Random lanes of one of four kinds of prices."""
     lowest, highest = ((-4, 9), (0, 2), (-1_000_000, 1_000_000), (-1, 4))[kind]
     return [(rng.randrange(n), rng.randrange(n), rng.randint(lowest, highest))
             for _ in range(m)]
+
+
+def by_target(lanes):
+    """The lanes sorted by to-yard."""
+    return sorted(lanes, key=lambda lane: lane[1])
+
+
+def random_sorted_lanes(rng, n, m, kind):
+    """Random lanes sorted by to-yard, often to few of the yards."""
+    targets = rng.sample(range(n), rng.randint(1, n))
+    return by_target((origin, rng.choice(targets), price) for origin, _, price
+                     in random_lanes(rng, n, m, kind))
+
+
+def random_ties(rng):
+    """A sorted network of many lanes whose prices nearly cancel on circles."""
+    n = rng.randint(4, 5)
+    heights = [rng.randrange(9) for _ in range(n)]
+    ends = [(rng.randrange(n), rng.randrange(n)) for _ in range(4 * n)]
+    lanes = [(u, v, heights[v] - heights[u] + (rng.randrange(4) == 0))
+             for u, v in ends]
+    return Network(3, n, rng.randrange(n), by_target(lanes))
 
 
 def random_table(rng, n, kind):
@@ -440,9 +552,39 @@ def random_table(rng, n, kind):
 def random_network(rng, method, n, m, source):
     """A random network with this public part."""
     kind = rng.randrange(4)
-    lanes = (random_lanes(rng, n, m, kind) if method == 1
-             else random_table(rng, n, kind))
-    return Network(method, n, source, lanes)
+    if method == 2:
+        return Network(method, n, source, random_table(rng, n, kind))
+    lanes_of = random_sorted_lanes if method == 3 else random_lanes
+    return Network(method, n, source, lanes_of(rng, n, m, kind))
+
+
+def shapes_of(case):
+    """What a run of a sorted network could get wrong, and if it is there."""
+    lanes, yards = case.lanes, range(case.yards)
+    distances, loss_circle = network.walk_distances(case)
+    leading = [[lane for lane in lanes if lane[1] == v] for v in yards]
+    shapes = {
+        "one yard": case.yards == 1,
+        "no lanes": not lanes,
+        "one segment of several lanes": any(len(segment) == len(lanes) > 1
+                                            for segment in leading),
+        "a yard without lanes to it": any(not segment for segment in leading),
+        "parallel lanes": len({lane[:2] for lane in lanes}) < len(lanes),
+        "a lane to its own yard": any(u == v for u, v, _ in lanes),
+        "a circle of price 0": any((v, u, -price) in lanes
+                                   for u, v, price in lanes),
+        "a loss circle": loss_circle,
+        "a rebate from an unreached yard": any(
+            distances[u] is None and price < 0 for u, _, price in lanes),
+    }
+    if not loss_circle:
+        shapes["a tie"] = any(
+            sum(walks.ends_least_walk(v, lane, distances)
+                for lane in leading[v]) > 1 for v in yards)
+        shapes["parents other than method 1's"] = (
+            network.run(case).parents
+            != network.run(case._replace(method=1)).parents)
+    return shapes
 
 
 def check_random_run(checks, case):
@@ -479,16 +621,45 @@ def check_random_pair(checks, rng, method):
 
 
 def check_random(checks):
-    """Random requests of both methods and random foreign plans."""
+    """Random requests of every method and random foreign plans."""
     rng = random.Random(SEED)
-    verdicts = []
+    verdicts = {1: [], 2: [], 3: []}
     for _ in range(RANDOM_PAIRS):
-        verdicts += check_random_pair(checks, rng, 1)
-        check_random_pair(checks, rng, 2)
-    checks.holds(min(verdicts.count(0), verdicts.count(1)) >= 50,
-                 "both verdicts are common among the random requests")
+        for method, told in verdicts.items():
+            told += check_random_pair(checks, rng, method)
+    for method in (1, 3):
+        checks.holds(min(map(verdicts[method].count, (0, 1))) >= 50,
+                     f"both verdicts are common in method {method}")
     for _ in range(RANDOM_PLANS):
         check_foreign_random(checks, rng)
+
+
+def check_random_shapes(checks):
+    """Random sorted networks, among which every shape is common."""
+    rng = random.Random(SEED)
+    cases = [random_ties(rng) for _ in range(RANDOM_TIES)]
+    for _ in range(RANDOM_PAIRS):
+        n = rng.randint(1, 6)
+        cases.append(random_network(rng, 3, n, rng.randint(0, 10),
+                                    rng.randrange(n)))
+    shapes = Counter()
+    for case in cases:
+        check_random_run(checks, case)
+        shapes.update(shapes_of(case))
+    checks.holds(min(shapes.values()) >= LEAST_OF_A_SHAPE,
+                 f"every shape is common, {shapes}")
+
+
+def check_random_walks(checks):
+    """The second computation against every walk of small networks."""
+    rng = random.Random(SEED)
+    for _ in range(RANDOM_WALKS):
+        n, m = rng.randint(1, 4), rng.randint(0, 6)
+        part = n, random_lanes(rng, n, m, rng.randrange(4)), rng.randrange(n)
+        expected = walks.exhaustive(*part)
+        distances, _, gains = walks.synchronous(*part)
+        checks.equal(walks.bellman_ford(*part), expected, f"walks of {part}")
+        checks.equal((distances, gains), expected, f"passes of {part}")
 
 
 def main():
@@ -496,11 +667,12 @@ def main():
     checks = Checks()
     for check in (check_edge_plan, check_edge_printed, check_edge_method_1,
                   check_edge_method_2, check_edge_limits, check_edge_cells,
-                  check_fields, check_lengths, check_spelled_plans,
-                  check_figures_lanes, check_order_method_1,
-                  check_order_method_2, check_desk, check_plan_writer,
+                  check_passes, check_fields, check_lengths,
+                  check_spelled_plans, check_figures_lanes, check_methods,
+                  check_order_lanes, check_sorted, check_order_method_2,
+                  check_desk, check_desk_method_3, check_plan_writer,
                   check_foreign_words, check_foreign_order, check_replay_ends,
-                  check_random):
+                  check_random, check_random_shapes, check_random_walks):
         check(checks)
     print(f"model: {checks.count} checks passed")
 

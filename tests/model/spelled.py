@@ -1,7 +1,7 @@
-"""Two small plans spelled out by hand, one operation a line.
+"""Three small plans spelled out by hand, one operation a line.
 
-A line is the operation's name, the cell written and the operands, as document
-01 reads them: `EQUAL X+5 from+0 Y+1` is EQUAL X+5 (from 0, Y+1).  SET has its
+A line is the operation's name, the cell written and the operands, as the rules
+read them: `EQUAL X+5 from+0 Y+1` is EQUAL X+5 (from 0, Y+1).  SET has its
 number for an operand, OPEN only the cell published.
 """
 
@@ -103,6 +103,96 @@ MOVEIF D+1 X+5 X+2
 MOVEIF P+1 X+5 X+3
 """
 PLAN_2 = OPENING_2 + TURN_2 * 2
+
+# Method 3, two yards, two lanes, source 1: the cells are 36.
+PLACES_3 = {"from": 0, "B": 2, "to": 3, "price": 5, "D": 7, "P": 9, "Y": 11,
+            "N": 13, "Q": 15, "X": 17, "S": 26, "F": 28, "T": 32}
+PLAN_3 = """
+SET Y+0 0
+SET D+0 274877906944
+SET P+0 -1
+SET N+0 274877906944
+SET Y+1 1
+SET D+1 0
+SET P+1 -1
+SET N+1 274877906944
+SET X+0 274877906944
+SET X+8 0
+SET B+0 -1
+LESS S+0 B+0 to+0
+EQUAL F+0 from+0 Y+0
+EQUAL T+0 to+0 Y+0
+EQUAL F+1 from+0 Y+1
+EQUAL T+1 to+0 Y+1
+LESS S+1 to+0 to+1
+EQUAL F+2 from+1 Y+0
+EQUAL T+2 to+1 Y+0
+EQUAL F+3 from+1 Y+1
+EQUAL T+3 to+1 Y+1
+COPY X+1 X+0
+MOVEIF X+1 F+0 D+0
+MOVEIF X+1 F+1 D+1
+ADD X+2 X+1 price+0
+LESS X+4 X+1 X+0
+MOVEIF X+6 S+0 X+0
+LESS X+5 X+2 X+6
+BOTH X+5 X+5 X+4
+MOVEIF X+6 X+5 X+2
+SET X+3 0
+MOVEIF X+7 X+5 X+3
+MOVEIF N+0 T+0 X+6
+MOVEIF Q+0 T+0 X+7
+MOVEIF N+1 T+1 X+6
+MOVEIF Q+1 T+1 X+7
+COPY X+1 X+0
+MOVEIF X+1 F+2 D+0
+MOVEIF X+1 F+3 D+1
+ADD X+2 X+1 price+1
+LESS X+4 X+1 X+0
+MOVEIF X+6 S+1 X+0
+LESS X+5 X+2 X+6
+BOTH X+5 X+5 X+4
+MOVEIF X+6 X+5 X+2
+SET X+3 1
+MOVEIF X+7 X+5 X+3
+MOVEIF N+0 T+2 X+6
+MOVEIF Q+0 T+2 X+7
+MOVEIF N+1 T+3 X+6
+MOVEIF Q+1 T+3 X+7
+LESS X+5 N+0 D+0
+MOVEIF D+0 X+5 N+0
+MOVEIF P+0 X+5 Q+0
+LESS X+5 N+1 D+1
+MOVEIF D+1 X+5 N+1
+MOVEIF P+1 X+5 Q+1
+COPY X+1 X+0
+MOVEIF X+1 F+0 D+0
+MOVEIF X+1 F+1 D+1
+ADD X+2 X+1 price+0
+LESS X+4 X+1 X+0
+MOVEIF X+6 S+0 X+0
+LESS X+5 X+2 X+6
+BOTH X+5 X+5 X+4
+MOVEIF X+6 X+5 X+2
+MOVEIF N+0 T+0 X+6
+MOVEIF N+1 T+1 X+6
+COPY X+1 X+0
+MOVEIF X+1 F+2 D+0
+MOVEIF X+1 F+3 D+1
+ADD X+2 X+1 price+1
+LESS X+4 X+1 X+0
+MOVEIF X+6 S+1 X+0
+LESS X+5 X+2 X+6
+BOTH X+5 X+5 X+4
+MOVEIF X+6 X+5 X+2
+MOVEIF N+0 T+2 X+6
+MOVEIF N+1 T+3 X+6
+LESS X+5 N+0 D+0
+MOVEIF X+8 X+5 X+5
+LESS X+5 N+1 D+1
+MOVEIF X+8 X+5 X+5
+OPEN X+8
+"""
 
 
 def cell(name, places):

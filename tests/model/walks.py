@@ -31,6 +31,58 @@ def bellman_ford(n, lanes, source):
     return best, lengthen(best, lanes) != best
 
 
+def least_offer(best, lanes, yard):
+    """The least total by a lane to the yard, and the lowest such lane.
+
+    None if no lane leads to it from a reached yard.
+    """
+    return min(((best[origin] + price, number)
+                for number, (origin, target, price) in enumerate(lanes)
+                if target == yard and best[origin] is not None), default=None)
+
+
+def gaining_offers(best, lanes):
+    """The least offer to each yard that gains by it, all from these totals."""
+    offers = [least_offer(best, lanes, yard) for yard in range(len(best))]
+    return {yard: offer for yard, offer in enumerate(offers)
+            if offer and (best[yard] is None or offer[0] < best[yard])}
+
+
+def synchronous(n, lanes, source):
+    """Distances and last lanes' numbers after n-1 passes of all yards at once.
+
+    Each pass reads the totals of the pass before.  Also whether a yard would
+    gain in one pass more.  A number is None where no lane was ever taken.
+    """
+    best, numbers = [None] * n, [None] * n
+    best[source] = 0
+    for _ in range(n - 1):
+        for yard, offer in gaining_offers(best, lanes).items():
+            best[yard], numbers[yard] = offer
+    return best, numbers, bool(gaining_offers(best, lanes))
+
+
+def walks_of(lanes, source, most):
+    """The last yard and the total of every walk of at most so many lanes."""
+    found = longest = [(source, 0)]
+    for _ in range(most):
+        longest = [(target, total + price) for yard, total in longest
+                   for origin, target, price in lanes if origin == yard]
+        found = found + longest
+    return found
+
+
+def exhaustive(n, lanes, source):
+    """What bellman_ford answers, by looking at every walk of up to n lanes."""
+    def least(most):
+        totals = {}
+        for yard, total in walks_of(lanes, source, most):
+            totals[yard] = min(total, totals.get(yard, total))
+        return [totals.get(yard) for yard in range(n)]
+
+    return least(n - 1), least(n) != least(n - 1)
+
+
 def dijkstra(n, lanes, source):
     """Distances from the source where no price is negative."""
     leaving = [[] for _ in range(n)]

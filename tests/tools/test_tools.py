@@ -1,7 +1,7 @@
 """Tests tools/request.py and tools/log.py with document 01's own words and figures.
 
-The plans that log.py is shown are written here a second time, from document 01's lines, so that its listing and its rounds are
-held against figures the document prints.
+The plans that log.py is shown are written here a second time, from the rules' lines (document 01's, and docs/RULES.md for
+method 3), so that its listing and its rounds are held against figures printed there.
 """
 
 import codecs
@@ -98,6 +98,38 @@ def plan_of_method_2(n, source):
     return words
 
 
+def plan_of_method_3(n, m, source):
+    """The plan of method 3."""
+    D, P, Y, N, Q, X = (3 * m + k * n + 1 for k in range(6))
+    S, F, T = X + 9, X + 9 + m, X + 9 + m + n * m
+    words = [word(3, n, m, source)]
+    for v, settings in enumerate(opening(n, source, D, P, Y)):
+        words += settings + [put(N + v, FAR)]
+    words += [put(X, FAR), put(X + 8, 0), put(m, -1)]
+    for i in range(m):
+        words.append(word(LESS, S + i, m + i, m + 1 + i))
+        for v in range(n):
+            words += [word(EQUAL, F + i * n + v, i, Y + v), word(EQUAL, T + i * n + v, m + 1 + i, Y + v)]
+    for turn in range(n):
+        is_check = turn == n - 1
+        for i in range(m):
+            words.append(word(COPY, X + 1, X))
+            words += [word(MOVEIF, X + 1, F + i * n + v, D + v) for v in range(n)]
+            words += [word(ADD, X + 2, X + 1, 2 * m + 1 + i), word(LESS, X + 4, X + 1, X), word(MOVEIF, X + 6, S + i, X)]
+            words += [word(LESS, X + 5, X + 2, X + 6), word(BOTH, X + 5, X + 5, X + 4), word(MOVEIF, X + 6, X + 5, X + 2)]
+            words += [] if is_check else [put(X + 3, i), word(MOVEIF, X + 7, X + 5, X + 3)]
+            for v in range(n):
+                words.append(word(MOVEIF, N + v, T + i * n + v, X + 6))
+                words += [] if is_check else [word(MOVEIF, Q + v, T + i * n + v, X + 7)]
+        for v in range(n):
+            words.append(word(LESS, X + 5, N + v, D + v))
+            if is_check:
+                words.append(word(MOVEIF, X + 8, X + 5, X + 5))
+            else:
+                words += [word(MOVEIF, D + v, X + 5, N + v), word(MOVEIF, P + v, X + 5, Q + v)]
+    return words + [word(OPEN, 0, X + 8)]
+
+
 def as_bytes(words):
     """The words as files hold them."""
     return b"".join(value.to_bytes(8, "big") for value in words)
@@ -165,6 +197,17 @@ class RequestWords(unittest.TestCase):
         expected = [word(1, 32, 128, 31)] + [0x1F000000FFF0BDC0] * 64 + [0x001F0000000F4240] * 64
         self.assertEqual(self.words("method 1\nyards 32\nsource 31\n" + lanes), expected)
 
+    def test_sorted_lanes_stay_in_their_order(self):
+        text = "method 3\nyards 3\nsource 0\nlane 0 1 7\nlane 2 1 -4\nlane 1 1 0\nlane 0 2 9\n"
+        expected = [word(3, 3, 4), 0x0001000000000007, 0x02010000FFFFFFFC, 0x0101000000000000, 0x0002000000000009]
+        self.assertEqual(self.words(text), expected)
+
+    def test_lanes_in_any_order(self):
+        lanes = "lane 0 1 0\nlane 0 0 0\n"
+        expected = [0x0001000000000000, 0]
+        self.assertEqual(self.words("method 1\nyards 2\nsource 0\n" + lanes), [word(1, 2, 2)] + expected)
+        self.assertEqual(self.words("method 3\nyards 2\nsource 0\n" + lanes, True), [word(3, 2, 2)] + expected)
+
     def test_unchecked_makes_refused_requests(self):
         yards_33 = "method 1\nyards 33\nsource 0\n"
         self.assertEqual(self.words(yards_33, True), [word(1, 33)])
@@ -184,16 +227,18 @@ class RequestWords(unittest.TestCase):
 
     def test_round_trip_of_random_networks(self):
         chance = random.Random(1)
-        for _ in range(20):
+        for method in (1, 3) * 20:
             n = chance.randint(1, 32)
             edges = [
                 (chance.randrange(n), chance.randrange(n), chance.randint(-1_000_000, 1_000_000))
                 for _ in range(chance.randint(0, 128))
             ]
+            if method == 3:
+                edges.sort(key=lambda edge: edge[1])
             source = chance.randrange(n)
             lanes = "".join("lane {} {} {}\n".format(*edge) for edge in edges)
-            header, *body = self.words(f"method 1\nyards {n}\nsource {source}\n{lanes}")
-            self.assertEqual(header, word(1, n, len(edges), source))
+            header, *body = self.words(f"method {method}\nyards {n}\nsource {source}\n{lanes}")
+            self.assertEqual(header, word(method, n, len(edges), source))
             read_back = [
                 (data[0], data[1], int.from_bytes(data[4:], "big", signed=True)) for data in map(as_bytes, zip(body))
             ]
@@ -205,6 +250,7 @@ class RequestMessages(WithFolder):
 
     HEADER_1 = "method 1\nyards 2\nsource 0\n"
     HEADER_2 = "method 2\nyards 2\nsource 0\n"
+    HEADER_3 = "method 3\nyards 3\nsource 0\n"
 
     def complaints(self, text, *options):
         """What request.py says of a bad text, a message a line; it must write nothing and end with status 1."""
@@ -229,8 +275,8 @@ class RequestMessages(WithFolder):
             self.HEADER_1 + "method 1\n": "line 4: `method` was given on line 1, expected it once",
             self.HEADER_1 + "yards 2\n": "line 4: `yards` was given on line 2, expected it once",
             self.HEADER_1 + "source 0\n": "line 4: `source` was given on line 3, expected it once",
-            "method one\nyards 1\nsource 0\n": "line 1: method `one` is no whole number, expected 1 to 2",
-            "method 3\nyards 1\nsource 0\n": "line 1: method 3 is out of range, expected 1 to 2",
+            "method one\nyards 1\nsource 0\n": "line 1: method `one` is no whole number, expected 1 to 3",
+            "method 4\nyards 1\nsource 0\n": "line 1: method 4 is out of range, expected 1 to 3",
             "method 1\nyards 0\nsource 0\n": "line 2: yards 0 is out of range, expected 1 to 32",
             "method 1\nyards 33\nsource 0\n": "line 2: yards 33 is out of range, expected 1 to 32",
             "method 1\nyards 2\nsource 2\n": "line 3: source 2 is out of range, expected 0 to 1",
@@ -253,6 +299,11 @@ class RequestMessages(WithFolder):
             "expected -1 to 1000000 (-1 or - for no lane)",
             self.HEADER_2 + "row 0 0\nrow 0 x\n": "line 5: price `x` is no whole number, "
             "expected -1 to 1000000 (-1 or - for no lane)",
+            self.HEADER_3 + "lane 0 1 1000001\n": "line 4: price 1000001 is out of range, expected -1000000 to 1000000",
+            self.HEADER_3 + "lane 0 1 0\n" * 131: "line 132: one lane too many, expected at most 128 lanes",
+            self.HEADER_3 + "row 0 0 0\n": "line 4: `row` in method 3, expected `lane FROM-YARD TO-YARD PRICE`",
+            self.HEADER_3 + "lane 0 2 0\n\nlane 0 1 0\nlane 0 1 0\n": "line 6: to-yard 1 is below that of the lane before "
+            "it (2, line 4), expected lanes sorted by to-yard",
         }
         for text, message in cases.items():
             with self.subTest(message):
@@ -285,6 +336,22 @@ class RequestMessages(WithFolder):
             "line 9: wrong number of values after `lane` (1), expected `lane FROM-YARD TO-YARD PRICE`",
         ]
         self.assertEqual(self.complaints(text), expected)
+
+    def test_unsorted_lanes(self):
+        below = "line {}: to-yard {} is below that of the lane before it ({}, line {}), expected lanes sorted by to-yard".format
+        # Each is compared with the one before it, not with the highest so far.
+        lanes = "lane 0 0 0\nlane 0 2 0\nlane 0 1 0\nlane 0 1 0\nlane 0 0 0\n"
+        self.assertEqual(self.complaints(self.HEADER_3 + lanes), [below(6, 1, 2, 5), below(8, 0, 1, 7)])
+        # A lane that is bad in another way is told that first, and compared with no lane while its to-yard is not known.
+        lanes = "lane 0 2 0\nlane 0 1 x\nlane 0 9 0\nlane 0 1 0\nlane 0 2\nlane 0 0 0\nlane 1 2 0\nlane 3 1 0\nlane 1 0 0\n"
+        expected = [
+            "line 5: price `x` is no whole number, expected -1000000 to 1000000",
+            "line 6: to-yard 9 is out of range, expected 0 to 2",
+            "line 8: wrong number of values after `lane` (2), expected `lane FROM-YARD TO-YARD PRICE`",
+            "line 11: from-yard 3 is out of range, expected 0 to 2",
+            below(12, 0, 1, 11),
+        ]
+        self.assertEqual(self.complaints(self.HEADER_3 + lanes), expected)
 
     def test_every_bad_line_when_unchecked(self):
         text = "method 16\nyards 0\nsource 0\nlane 0 256 0\nrow 0 x -\nrow\n"
@@ -337,10 +404,10 @@ class RequestMessages(WithFolder):
     def test_no_echo_of_a_bad_header(self):
         body = "source 5\nrow 0 0 0\nrow 0\nlane 7 8 0\n"
         expected = [
-            "line 1: method 3 is out of range, expected 1 to 2",
+            "line 1: method 4 is out of range, expected 1 to 3",
             "line 2: yards `x` is no whole number, expected 1 to 32",
         ]
-        self.assertEqual(self.complaints("method 3\nyards x\n" + body), expected)
+        self.assertEqual(self.complaints("method 4\nyards x\n" + body), expected)
         expected = [
             "line 2: `method` was given on line 1, expected it once",
             "line 4: `yards` was given on line 3, expected it once",
@@ -437,6 +504,25 @@ class Listing(WithFolder):
         self.assertEqual(plan_of_method_1(1, 0, 0), EDGE_1_PLAN)
         self.assertEqual(self.listing(EDGE_1_PLAN, "--plan"), self.listing(EDGE_1_LOG)[:7] + self.listing(EDGE_1_LOG)[-2:])
 
+    def test_log_of_method_3(self):
+        expected = [
+            "      0  3000010000000000  header method=3 yards=1 lanes=0 source=0",
+            "      1  0000030000000000  SET [3] <- 0",
+            "      2  0000010000000000  SET [1] <- 0",
+            "      3  000002FFFFFFFFFF  SET [2] <- -1",
+            "      4  0000044000000000  SET [4] <- 274877906944",
+            "      5  0000064000000000  SET [6] <- 274877906944",
+            "      6  00000E0000000000  SET [14] <- 0",
+            "      7  000000FFFFFFFFFF  SET [0] <- -1",
+            "      8  30000B0000400001  LESS [11] <- [4] < [1]",
+            "      9  60000E0000B0000B  MOVEIF [14] <- [11] if [11]",
+            "     10  7000000000E00000  OPEN [14]",
+            "     11  0000000000000000  published 0",
+            "tallies SET 7 COPY 0 ADD 0 LESS 1 EQUAL 0 BOTH 0 MOVEIF 1 OPEN 1",
+            "rounds 15",
+        ]
+        self.assertEqual(self.listing(plan_of_method_3(1, 0, 0) + [0]), expected)
+
     def test_every_operation(self):
         words = [word(op, 1, 2, 3) for op in (SET, ADD, LESS, EQUAL, BOTH, MOVEIF)]
         words += [word(COPY, 1, 2), word(OPEN, 0, 2), 2**64 - 5]
@@ -486,20 +572,26 @@ class Listing(WithFolder):
         tallies = "tallies SET 0 COPY 0 ADD 0 LESS 0 EQUAL 0 BOTH 0 MOVEIF 0 OPEN 0"
         self.assertEqual(self.listing(EDGE_1_LOG[:1]), [self.listing(EDGE_1_LOG)[0], tallies, "rounds 0"])
 
-    def test_rounds_and_lengths_of_document_01(self):
+    def test_rounds_and_lengths(self):
         figures = [
             (plan_of_method_1(2, 1, 0), 47, 112),  # edge 2, the printed request
             (plan_of_method_1(1, 1, 0), 17, 34),  # edge 3, by the formulas of method 1
             (plan_of_method_2(2, 0), 67, 116),  # edge 6
             (plan_of_method_2(1, 0), 21, 32),  # edge 7
+            (plan_of_method_3(1, 0, 0), 11, 15),  # by the formulas of method 3, as the next two
+            (plan_of_method_3(2, 1, 0), 54, 114),
+            (plan_of_method_3(3, 3, 2), 209, 430),
         ]
         for plan, length, rounds in figures:
             lines = self.listing(plan, "--plan")
             self.assertEqual((len(lines) - 2, lines[-1]), (length, f"rounds {rounds}"))
 
-    def test_largest_rounds_of_method_2(self):
-        plan = plan_of_method_2(32, 0)
-        self.assertEqual((len(plan), log.rounds_of(log.tallies_of(plan, is_plan=True))), (44_227, 57_506))
+    def test_largest_rounds(self):
+        for plan, figures in (
+            (plan_of_method_2(32, 0), (44_227, 57_506)),
+            (plan_of_method_3(32, 128, 0), (437_221, 516_708)),
+        ):
+            self.assertEqual((len(plan), log.rounds_of(log.tallies_of(plan, is_plan=True))), figures)
 
 
 class Comparison(WithFolder):
@@ -539,6 +631,15 @@ class Comparison(WithFolder):
         plan = plan_of_method_1(1, 1, 0)
         expected = [
             "differ at place 17, in a published word",
+            "A  0000000000000001  published 1",
+            "B  0000000000000000  published 0",
+        ]
+        self.assertEqual(self.comparison(plan + [1], plan + [0]), (1, expected))
+
+    def test_method_3_differs_in_the_published_word(self):
+        plan = plan_of_method_3(1, 1, 0)
+        expected = [
+            "differ at place 23, in a published word",
             "A  0000000000000001  published 1",
             "B  0000000000000000  published 0",
         ]
@@ -595,7 +696,7 @@ class LogMessages(WithFolder):
         self.assertEqual(run(log, "compare", path, other, "--bytes"), (0, "equal, 2 words\n", ""))
 
     def test_no_request_looks_like_text(self):
-        for method, n, m in product((1, 2), range(1, 33), range(129)):
+        for method, n, m in product((1, 2, 3), range(1, 33), range(129)):
             self.assertFalse(log.looks_like_text(as_bytes([word(method, n, m, n - 1)])))
 
     def test_one_form_at_most(self):

@@ -8,5 +8,5 @@ facts =
       desk = (refl, refl, refl, refl, refl);
       host = (refl, refl, refl);
       sender = refl;
-      carrier = (refl, refl, refl, refl);
+      carrier = (refl, refl, refl, refl, refl);
     }

@@ -1,5 +1,5 @@
--- Refusals (document 01, "Who caused it", with ask 1 of document 02) by name, each with its number and place, and the first of several that is met.
--- Rests on nothing.
+-- Refusals (document 01, "Who caused it", with asks 1 and 3 of document 02) by name, each with its number and place, and the first of several
+-- that is met. Rests on nothing.
 use mathlib.Core.Bool.{Bool, true, false, cond}
 use mathlib.Core.List.{List, [], _∷_}
 use mathlib.Core.Option.{Option, none, some}
@@ -57,6 +57,9 @@ FromVertex place = placed 13 place
 
 abbrev pub ToVertex : (place : ℕ) → Refusal
 ToVertex place = placed 14 place
+
+abbrev pub Unsorted : (place : ℕ) → Refusal
+Unsorted place = placed 15 place
 
 abbrev pub placeOf : Refusal → Option ℕ
 placeOf r = cond (r .placed) (some (r .place)) none

@@ -82,6 +82,8 @@ pub const FROM_VERTEX: u64 = 13;
 
 pub const TO_VERTEX: u64 = 14;
 
+pub const UNSORTED: u64 = 15;
+
 impl Refusal {
     // A refusal at a place.
     pub fn at(number: u64, place: usize) -> Refusal

@@ -1,4 +1,4 @@
-// Requests through the desk's program: every refusal it can print, and runs of both methods, each under its name.
+// Requests through the desk's program: every refusal it can print, and runs of every method, each under its name.
 // Rests on console.
 use libc::STDOUT_FILENO;
 ghost use Prim.Native.Nat.{_*_, _≤_};
@@ -25,12 +25,14 @@ fn refused_headers() {
     send(b"no bytes", &[0x1000010000000000], 0);
     send(b"a broken header", &[0x1000010000000000], 7);
     send(b"method 0", &[0x0000010000000000], 8);
-    send(b"method 3", &[0x3000010000000000], 8);
+    send(b"method 4", &[0x4000010000000000], 8);
     send(b"no yards", &[0x1000000000000000], 8);
     send(b"33 yards", &[0x1000210000000000], 8);
     send(b"129 lanes", &[0x1000010008100000], 8);
     send(b"method 2 with a lane", &[0x2000010000100000, 0], 16);
     send(b"source 2 of 2 yards", &[0x1000020000000002], 8);
+    send(b"129 lanes in method 3", &[0x3000010008100000], 8);
+    send(b"source 2 of 2 yards in method 3", &[0x3000020000000002], 8);
 }
 
 fn refused_counts() {
@@ -62,6 +64,31 @@ fn refused_counts() {
     send(b"17 yards in method 2, too long a log", &long, 2320);
     long[0] = 0x1000030006700000;
     send(b"3 yards and 103 lanes, too long a log", &long, 832);
+    send(b"a lane missing in method 3", &[0x3000020000100000], 8);
+    long[0] = 0x3000030007500000;
+    send(
+        b"3 yards and 117 lanes in method 3, too few cells",
+        &long,
+        944,
+    );
+    long[0] = 0x3000040006100000;
+    send(
+        b"4 yards and 97 lanes in method 3, too few cells before too long a log",
+        &long,
+        784,
+    );
+    long[0] = 0x3000040006000000;
+    send(
+        b"4 yards and 96 lanes in method 3, too long a log",
+        &long,
+        776,
+    );
+    long[0] = 0x3000040005E00000;
+    send(
+        b"4 yards and 94 lanes in method 3, too long a log",
+        &long,
+        760,
+    );
 }
 
 fn refused_lanes() {
@@ -140,6 +167,69 @@ fn refused_entries() {
         b"a price of 1,000,001 in a table",
         &[0x2000010000000000, 0x00000000000F4241],
         16,
+    );
+}
+
+fn refused_order() {
+    send(
+        b"a to-yard below the one before",
+        &[0x3000020000200000, 0x0001000000000005, 0x0100000000000005],
+        24,
+    );
+    send(
+        b"a to-yard below the one before, not below the first",
+        &[
+            0x3000030000300000,
+            0x0000000000000005,
+            0x0002000000000005,
+            0x0001000000000005,
+        ],
+        32,
+    );
+    send(
+        b"two to-yards below the one before",
+        &[
+            0x3000030000300000,
+            0x0002000000000005,
+            0x0001000000000005,
+            0x0000000000000005,
+        ],
+        32,
+    );
+    send(
+        b"a price before the order",
+        &[0x3000020000200000, 0x0001000000000005, 0x00000000000F4241],
+        24,
+    );
+    send(
+        b"a from-yard not there before the order",
+        &[0x3000020000200000, 0x0001000000000005, 0x0200000000000005],
+        24,
+    );
+    send(
+        b"a spare bit before the order",
+        &[0x3000020000200000, 0x0001000000000005, 0x0000000100000005],
+        24,
+    );
+    send(
+        b"the order before a spare bit of the next lane",
+        &[
+            0x3000020000300000,
+            0x0001000000000005,
+            0x0000000000000005,
+            0x0000000100000005,
+        ],
+        32,
+    );
+    send(
+        b"to a yard not there in method 3",
+        &[0x3000020000200000, 0x0001000000000005, 0x0002000000000005],
+        24,
+    );
+    send(
+        b"the same lanes in method 1, which has no order",
+        &[0x1000020000200000, 0x0001000000000005, 0x0100000000000005],
+        24,
     );
 }
 
@@ -223,12 +313,124 @@ fn runs_of_method_2() {
     send(b"16 yards in method 2, the largest log", &table, 2056);
 }
 
+fn runs_of_method_3() {
+    send(
+        b"the printed request in method 3",
+        &[0x3000020000100000, 0x00010000FFFFFFFB],
+        16,
+    );
+    send(b"one yard, no lane, method 3", &[0x3000010000000000], 8);
+    send(
+        b"one yard, a lane of 0, method 3",
+        &[0x3000010000100000, 0],
+        16,
+    );
+    send(
+        b"one yard, a loss circle, method 3",
+        &[0x3000010000100000, 0x00000000FFFFFFFF],
+        16,
+    );
+    send(b"three yards, no lane, method 3", &[0x3000030000000001], 8);
+    send(
+        b"a tie keeps the lowest lane, method 3",
+        &[
+            0x3000020000300000,
+            0x0001000000000005,
+            0x0001000000000004,
+            0x0001000000000004,
+        ],
+        32,
+    );
+    send(
+        b"lanes offered in the same pass, method 3",
+        &[
+            0x3000030000300000,
+            0x0001000000000001,
+            0x0102000000000001,
+            0x0002000000000002,
+        ],
+        32,
+    );
+    send(
+        b"the same lanes in method 1, other parents",
+        &[
+            0x1000030000300000,
+            0x0001000000000001,
+            0x0102000000000001,
+            0x0002000000000002,
+        ],
+        32,
+    );
+    send(
+        b"a strict gain in a later pass, method 3",
+        &[
+            0x3000030000300000,
+            0x0001000000000007,
+            0x02010000FFFFFFFC,
+            0x0002000000000009,
+        ],
+        32,
+    );
+    send(
+        b"a circle of price 0 and a lane to its own yard, method 3",
+        &[
+            0x3000030000400000,
+            0x0000000000000000,
+            0x01000000FFFFFFFD,
+            0x0001000000000003,
+            0x0101000000000000,
+        ],
+        40,
+    );
+    send(
+        b"a loss circle that the source does not reach, method 3",
+        &[0x3000030000200000, 0x02010000FFFFFFFF, 0x01020000FFFFFFFF],
+        24,
+    );
+    send(
+        b"a loss circle that the source reaches, method 3",
+        &[
+            0x3000030000300000,
+            0x00010000000F4240,
+            0x02010000FFFFFFFF,
+            0x01020000FFFFFFFF,
+        ],
+        32,
+    );
+    let mut lanes = [0u64; 129];
+    lanes[0] = 0x3000030007400000;
+    lanes[115] = 0x00010000FFFFFFFD;
+    lanes[116] = 0x0102000000000007;
+    send(
+        b"3 yards and 116 lanes in method 3, the largest bank",
+        &lanes,
+        936,
+    );
+    lanes[0] = 0x3000040005D00001;
+    lanes[92] = 0x0102000000000004;
+    lanes[93] = 0x0203000000000001;
+    send(
+        b"4 yards and 93 lanes in method 3, the largest log",
+        &lanes,
+        752,
+    );
+    lanes[0] = 0x3000020008000000;
+    lanes[92] = 0x0000000000000000;
+    lanes[93] = 0x0000000000000000;
+    lanes[115] = 0x0000000000000000;
+    lanes[116] = 0x0000000000000000;
+    lanes[128] = 0x0001000000000002;
+    send(b"2 yards and 128 lanes in method 3", &lanes, 1032);
+}
+
 fn main() {
     refused_headers();
     refused_counts();
     refused_lanes();
     refused_prices();
     refused_entries();
+    refused_order();
     runs_of_method_1();
     runs_of_method_2();
+    runs_of_method_3();
 }

@@ -9,37 +9,47 @@ use native.Mathlib.Omega.{arith}
 use lib.IntN.{ℤ, pos, negsuc, natAbs}
 use lib.ListN.{length, getD, drop}
 use Rattle.fields.specs.Fields.{bitsOf}
+use Rattle.machine.specs.Instruction.{Instruction}
 use Rattle.machine.specs.Effect.{isZero, cellAt}
 use Rattle.machine.specs.Log.{cellsAfter}
 use Rattle.plans.specs.declared.Header.{Header}
 use Rattle.plans.specs.Limits.{far, mostWeight}
 use Rattle.plans.specs.Regions.{cell}
-use Rattle.plans.specs.Method1 as Plan1
 use Rattle.plans.specs.Method2 as Plan2
 use Rattle.plans.specs.Plan.{Accepted, cellsOf, instructionsOf, planOf, Kind, distances, parents, resultsOf, verdictCell, published}
 use Rattle.plans.proofs.Headers.{header, by-method}
 use Rattle.graph.specs.Walk.{Edge, Network, Below}
 use Rattle.graph.specs.Shortest.{Naming, Distances, Parents, Shortest}
 use Rattle.graph.specs.BellmanFord.{network, numbered}
+use Rattle.graph.specs.Jacobi.{Sorted}
 use Rattle.graph.specs.Dijkstra.{tableNetwork, fromVertex}
 use Rattle.graph.proofs.Int.{arithℤ}
 use Rattle.graph.proofs.Parents.{parents-carried}
 use Rattle.graph.proofs.Dijkstra.{no-negative-cycle}
+use Rattle.graph.proofs.Synchronous.{synchronous-carried}
 use Rattle.graph.proofs.SameEdges.{cycle-over, shortest-over}
 use Rattle.methods.specs.Bank.{Exact}
+use Rattle.methods.specs.Edges as Edges
 use Rattle.methods.specs.Method1 as Method1
 use Rattle.methods.specs.Method2 as Method2
+use Rattle.methods.specs.Method3 as Method3
 use Rattle.methods.proofs.Rooms.{today}
-use Rattle.methods.proofs.Headers.{header1, header2}
+use Rattle.methods.proofs.OverEdges.{ends-below}
+use Rattle.methods.proofs.Headers.{header1, header2, header3}
 use Rattle.engine.specs.Run.{openedAt, verdictOf}
 use Rattle.engine.specs.Network.{edgeOf, Entered, networkOf, namingOf, sourcesOf, CycleFrom}
+use Rattle.engine.specs.Besides.{besidesOf}
 use Rattle.engine.proofs.Sources.{only-source, only-row}
 use Rattle.engine.proofs.Table.{tableOf}
 
 -- What intake supplies to the header's method.
 pub record Given (h : Header) (ws : List ℕ) (start : List ℤ) : Type 0 where
-  pub one : h .method ≡ 1 → Method1.Laid mostWeight (edgeOf ws) (h .vertices) (h .edges) (h .source) start
+  pub one : h .method ≡ 1
+      → Edges.Laid (Method1.places (h .vertices) (h .edges)) mostWeight (edgeOf ws) (h .vertices) (h .edges) (h .source) start
   pub two : h .method ≡ 2 → Method2.Laid (natAbs far) mostWeight (tableOf (h .vertices) ws) (h .vertices) (h .source) start
+  pub three : h .method ≡ 3
+      → Edges.Laid (Method3.places (h .vertices) (h .edges)) mostWeight (edgeOf ws) (h .vertices) (h .edges) (h .source) start
+  pub sorted : h .method ≡ 3 → Sorted (edgeOf ws) (h .edges)
   pub same : h .method ≡ 2 → (e : Edge) → tableNetwork (natAbs far) (h .vertices) (tableOf (h .vertices) ws) e ↔ Entered (h .vertices) ws e
 
 pub record Left (h : Header) (ws : List ℕ) (start left : List ℤ) : Type 0 where
@@ -55,6 +65,7 @@ pub record Left (h : Header) (ws : List ℕ) (start left : List ℤ) : Type 0 wh
   pub parent-marks : verdictOf h left ≡ 0 → resultsOf h parents .count ≢ 0
       → Parents (networkOf h ws) (namingOf h ws) far (h .vertices) (h .source)
       (λ v. cellAt left (resultsOf h distances .first + v)) (λ v. cellAt left (resultsOf h parents .first + v))
+  pub besides : verdictOf h left ≡ 0 → besidesOf h ws (λ k i. cellAt left (resultsOf h k .first + i))
   pub rest : (k : ℕ) → cellsOf h ≤ k → cellAt left k ≡ cellAt start k
   pub exact : Exact (instructionsOf h) start
   -- The opened word is the verdict.
@@ -93,7 +104,7 @@ flag (pos (suc zero)) one none =
 flag (pos (suc (suc k))) one none = absurd (neither one none (λ e. omega arithℤ) (λ e. omega arithℤ))
 flag (negsuc k) one none = absurd (neither one none (λ e. omega arithℤ) (λ e. omega arithℤ))
 
--- ---- both methods
+-- ---- a method with one source
 
 -- Of a method with one source: distances and parents, one after the other from these cells on.
 record OneRow (net : Network) (Names : Naming) (n source : ℕ) (left : List ℤ) (from : Kind → ℕ) : Type 0 where
@@ -112,33 +123,66 @@ one-row net Names n source left from below inside D P d p s =
           (s .parents);
     }
 
+-- What a method fixes carries over to results that agree where there are any.
+pub besides-carried : (h : Header) → Accepted h → (ws : List ℕ) (given given′ : Kind → ℕ → ℤ)
+    → ((k : Kind) (i : ℕ) → i < resultsOf h k .count → given′ k i ≡ given k i) → besidesOf h ws given → besidesOf h ws given′
+unfolding besidesOf resultsOf
+besides-carried =
+    by-method
+    (λ h. (ws : List ℕ) (given given′ : Kind → ℕ → ℤ)
+    → ((k : Kind) (i : ℕ) → i < resultsOf h k .count → given′ k i ≡ given k i) → besidesOf h ws given → besidesOf h ws given′)
+    (λ n m source a ws given given′ same f. tt)
+    (λ n source a ws given given′ same f. tt)
+    (λ n m source a ws given given′ same f. synchronous-carried (edgeOf ws) m far n source _ _ _ _ (same distances) (same parents) f)
+
+-- ---- a method over edges
+
+-- The verdict as it is read, and where there is no cycle the walks, with results from these cells on.
+record OfEdges (n m source : ℕ) (ws : List ℕ) (left : List ℤ) (verdict : ℕ) (from : Kind → ℕ) : Type 0 where
+  cycle : Flag (cellAt left verdict) (CycleFrom (network (edgeOf ws) m) (source ∷ []))
+  below : Below (network (edgeOf ws) m) n
+  walks : truth (cellAt left verdict) ≡ 0 → OneRow (network (edgeOf ws) m) (numbered (edgeOf ws) m) n source left from
+
+of-edges : (at : Edges.Places) {plan : List (Instruction ℕ)} {n m source : ℕ} {ws : List ℕ} {start left : List ℤ} (from : Kind → ℕ)
+    → ((v : ℕ) → from distances + v ≡ at .dist v) → ((v : ℕ) → from parents + v ≡ at .parent v)
+    → Edges.Laid at mostWeight (edgeOf ws) n m source start → Edges.Solved at (natAbs far) plan (edgeOf ws) n m source start left
+    → OfEdges n m source ws left (at .verdict) from
+of-edges at {n = n} {m = m} {source = source} {ws = ws} {left = left} from d p laid o =
+    let net = network (edgeOf ws) m in
+    let below = ends-below (edgeOf ws) n m (laid .limited) in
+    let f = flag _ (Iff·trans (o .cycle) (only-source net source)) (Iff·trans (o .none) (Iff·not (only-source net source))) in
+    record {
+      cycle = f;
+      below = below;
+      walks = λ e.
+          one-row net (numbered (edgeOf ws) m) n source left from below (laid .source-below) (at .dist) (at .parent) d p
+          (o .shortest (Iff·not (only-source net source) .1 (f .unset .0 e)));
+    }
+
+-- ---- each method
+
 pub left : (h : Header) → Accepted h → (ws : List ℕ) (start : List ℤ) → Given h ws start
     → Left h ws start (cellsAfter (drop 1 (planOf h)) start)
-unfolding verdictCell verdictOf networkOf namingOf sourcesOf resultsOf cellsOf instructionsOf
+unfolding verdictCell verdictOf networkOf namingOf sourcesOf besidesOf resultsOf cellsOf instructionsOf
 left =
     by-method
     (λ h. (ws : List ℕ) (start : List ℤ) → Given h ws start → Left h ws start (cellsAfter (drop 1 (planOf h)) start))
     (λ n m source a ws start g.
-    let net = network (edgeOf ws) m in
-    let cells = cell (Plan1.starts n m) in
-    let o = header1 (header 1 n m source) a start mostWeight today (edgeOf ws) refl (g .one refl) in
-    let f = flag _ (Iff·trans (o .cycle) (only-source net source)) (Iff·trans (o .none) (Iff·not (only-source net source))) in
-    let below : Below net n = λ e (i, l, q). rw q (g .one refl .limited .from-below i l, g .one refl .limited .to-below i l) in
-    let walks =
-    one-row net (numbered (edgeOf ws) m) n source (cellsAfter (drop 1 (planOf (header 1 n m source))) start)
-    (λ k. resultsOf (header 1 n m source) k .first) below (a .source-there) (λ v. cells (Plan1.D v)) (λ v. cells (Plan1.P v))
-    (λ v. omega arith) (λ v. omega arith) in
+    let h = header 1 n m source in
+    let o = header1 h a start mostWeight today (edgeOf ws) refl (g .one refl) in
+    let e = of-edges (Method1.places n m) {ws = ws} (λ k. resultsOf h k .first) (λ v. omega arith) (λ v. omega arith) (g .one refl) o in
     record {
-      cycle = f .set;
-      no-cycle = f .unset;
-      below = below;
+      cycle = e .cycle .set;
+      no-cycle = e .cycle .unset;
+      below = e .below;
       rows = omega arith;
       parents-row = λ ne. omega arith;
-      least-totals = λ e. walks (o .shortest (Iff·not (only-source net source) .1 (f .unset .0 e))) .row;
-      parent-marks = λ e ne. walks (o .shortest (Iff·not (only-source net source) .1 (f .unset .0 e))) .marks;
+      least-totals = λ z. e .walks z .row;
+      parent-marks = λ z ne. e .walks z .marks;
+      besides = λ z. tt;
       rest = o .rest;
       exact = o .exact;
-      opened = ap (λ w. w ∷ []) (f .word);
+      opened = ap (λ w. w ∷ []) (e .cycle .word);
     })
     (λ n source a ws start g.
     let net = Entered n ws in
@@ -161,7 +205,30 @@ left =
       parents-row = λ ne. omega arith;
       least-totals = λ e. walks .row;
       parent-marks = λ e ne. walks .marks;
+      besides = λ e. tt;
       rest = o .rest;
       exact = o .exact;
       opened = refl;
+    })
+    (λ n m source a ws start g.
+    let h = header 3 n m source in
+    let at = Method3.places n m in
+    let end = cellsAfter (drop 1 (planOf h)) start in
+    let (o, passes) = header3 h a start mostWeight today (edgeOf ws) refl (g .sorted refl) (g .three refl) in
+    let e = of-edges at {ws = ws} (λ k. resultsOf h k .first) (λ v. omega arith) (λ v. omega arith) (g .three refl) o in
+    record {
+      cycle = e .cycle .set;
+      no-cycle = e .cycle .unset;
+      below = e .below;
+      rows = omega arith;
+      parents-row = λ ne. omega arith;
+      least-totals = λ z. e .walks z .row;
+      parent-marks = λ z ne. e .walks z .marks;
+      besides = λ z.
+          synchronous-carried (edgeOf ws) m far n source _ _ _ _
+          (λ v l. let p : resultsOf h distances .first + v ≡ at .dist v = omega arith in ap (cellAt end) p)
+          (λ v l. let p : resultsOf h parents .first + v ≡ at .parent v = omega arith in ap (cellAt end) p) passes;
+      rest = o .rest;
+      exact = o .exact;
+      opened = ap (λ w. w ∷ []) (e .cycle .word);
     })

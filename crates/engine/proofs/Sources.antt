@@ -1,4 +1,4 @@
--- A method with one source: its one row of distances, and negative cycles from it. Both methods are such.
+-- A method with one source: its one row of distances, and negative cycles from it. All methods are such.
 -- Rests on graph's Parents.
 use mathlib.Core.Path.{_≡_, refl, ap, _∙_}
 use mathlib.Core.Logic.{_↔_, _≢_}
@@ -43,3 +43,4 @@ single =
     by-method (λ h. (sourcesOf h ≡ h .source ∷ []) × (resultsOf h parents .count ≢ 0))
     (λ n m source a. (refl, λ (e : n ≡ 0). omega (arith, a .vertices-some)))
     (λ n source a. (refl, λ (e : n ≡ 0). omega (arith, a .vertices-some)))
+    (λ n m source a. (refl, λ (e : n ≡ 0). omega (arith, a .vertices-some)))

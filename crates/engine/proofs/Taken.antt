@@ -1,6 +1,7 @@
 -- Intake supplies to each method what it asks, for every request within the limits; and so what the run of such a request leaves.
 -- Rests on the laws of requests.
-use mathlib.Core.Path.{_≡_, _∙_}
+use mathlib.Core.Path.{_≡_, refl, _∙_}
+use mathlib.Core.Logic.{_⊎_, inl, inr}
 use mathlib.Core.List.{List}
 use Prim.Native.Nat.{ℕ, _+_, _*_, _<_, _≤_}
 use native.Mathlib.Omega.{arith}
@@ -12,11 +13,13 @@ use Rattle.plans.specs.Limits.{far, mostWeight}
 use Rattle.plans.specs.Plan.{cellsOf}
 use Rattle.requests.specs.Word.{weightOf}
 use Rattle.requests.specs.WithinLimits.{headerIn, wordsIn, WithinLimits}
-use Rattle.requests.proofs.Sizes.{cells-one, cells-two}
-use Rattle.requests.proofs.WithinLimits.{accepted-in, cells-in, edge-in, entry-in}
-use Rattle.intake.proofs.Laid.{from-laid, to-laid, weight-laid, entry-laid}
+use Rattle.requests.proofs.Sizes.{cells-one, cells-two, cells-three}
+use Rattle.requests.proofs.WithinLimits.{accepted-in, cells-in, edge-in, sorted-in, entry-in}
+use Rattle.intake.proofs.Laid.{EdgesLaid, edges-one, edges-three, entry-laid}
+use Rattle.methods.specs.Edges as Edges
 use Rattle.methods.specs.Method1 as Method1
 use Rattle.methods.specs.Method2 as Method2
+use Rattle.methods.specs.Method3 as Method3
 use Rattle.engine.specs.Run.{Lent, lengthsOf, startOf, cellsLeft}
 use Rattle.engine.specs.Network.{edgeOf}
 use Rattle.engine.proofs.Intake.{long}
@@ -37,22 +40,37 @@ module _ (request : List ℕ) (lent : Lent)
   source-below : h .source < h .vertices
   source-below = accepted-in _ _ w .source-there
 
-  given1 : h .method ≡ 1 → Method1.Laid mostWeight (edgeOf ws) (h .vertices) (h .edges) (h .source) (startOf request lent)
-  given1 e =
-      let edge = edge-in request _ w in
+  limited : (h .method ≡ 1) ⊎ (h .method ≡ 3) → Edges.Limited mostWeight (edgeOf ws) (h .vertices) (h .edges)
+  limited e =
       record {
-        enough = omega (arith, long request lent enough, cells-one h e, enough);
-        from = from-laid h ws (lent .cells) e;
-        to = to-laid h ws (lent .cells) e;
-        weight = weight-laid h ws (lent .cells) e;
-        limited =
-            record {
-              from-below = λ i l. edge i e l .0;
-              to-below = λ i l. edge i e l .1;
-              weight-most = λ i l. edge i e l .2;
-            };
+        from-below = λ i l. edge-in request _ w i e l .from-below;
+        to-below = λ i l. edge-in request _ w i e l .to-below;
+        weight-most = λ i l. edge-in request _ w i e l .weight-most;
+      }
+
+  -- A method over edges that has its cells where intake lays them.
+  given-edges : (at : Edges.Places) {to weight : ℕ} → (h .method ≡ 1) ⊎ (h .method ≡ 3) → at .count ≡ cellsOf h
+      → EdgesLaid h ws (lent .cells) to weight
+      → ((i : ℕ) → at .from i ≡ 0 + i) → ((i : ℕ) → at .to i ≡ to + i) → ((i : ℕ) → at .weight i ≡ weight + i)
+      → Edges.Laid at mostWeight (edgeOf ws) (h .vertices) (h .edges) (h .source) (startOf request lent)
+  given-edges at e count laid from to weight =
+      record {
+        enough = omega (arith, long request lent enough, enough);
+        from = λ i l. rw (from i) (laid .from-is i l);
+        to = λ i l. rw (to i) (laid .to-is i l);
+        weight = λ i l. rw (weight i) (laid .weight-is i l);
+        limited = limited e;
         source-below = source-below;
       }
+
+  given1 : h .method ≡ 1
+      → Edges.Laid (Method1.places (h .vertices) (h .edges)) mostWeight (edgeOf ws) (h .vertices) (h .edges) (h .source) (startOf request lent)
+  given1 e = given-edges _ (inl e) (cells-one h e) (edges-one h ws (lent .cells) e) (λ i. refl) (λ i. refl) (λ i. refl)
+
+  given3 : h .method ≡ 3
+      → Edges.Laid (Method3.places (h .vertices) (h .edges)) mostWeight (edgeOf ws) (h .vertices) (h .edges) (h .source) (startOf request lent)
+  given3 e =
+      given-edges _ (inr e) (cells-three h e) (edges-three h ws (lent .cells) e) (λ i. refl) (λ i. omega arith) (λ i. refl)
 
   entry : h .method ≡ 2 → (u j : ℕ) → u < h .vertices → j < h .vertices → Range (weightOf (getD ws (u * h .vertices + j) 0))
   entry e u j p q =
@@ -72,4 +90,10 @@ module _ (request : List ℕ) (lent : Lent)
   pub ends : Left h ws (startOf request lent) (cellsLeft request lent)
   ends =
       left h (accepted-in _ _ w) ws (startOf request lent)
-      (record { one = given1; two = given2; same = λ e. same-edges (h .vertices) ws (entry e) })
+      (record {
+        one = given1;
+        two = given2;
+        three = given3;
+        sorted = λ e i. sorted-in request _ w i e;
+        same = λ e. same-edges (h .vertices) ws (entry e);
+      })

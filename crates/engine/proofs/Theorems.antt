@@ -20,13 +20,16 @@ use Rattle.runner.proofs.Foreign.{refused-plan, told-plan, length-told, log-bey
 use Rattle.requests.specs.WithinLimits.{headerIn, wordsIn}
 use Rattle.requests.proofs.WithinLimits.{within}
 use Rattle.requests.proofs.Refused.{public-refused, word-refused, settled}
+use Rattle.graph.specs.Jacobi.{Synchronous}
 use Rattle.graph.proofs.Parents.{distances-carried, parents-carried}
 use Rattle.engine.specs.Run.{Lent, outcome}
-use Rattle.engine.specs.Network.{networkOf, namingOf, sourcesOf}
-use Rattle.engine.specs.Demands.{RanOn, logTold, resultOf, Demand1, Demand2, OneSource, Demand3a, Demand3, DemandPlan}
+use Rattle.engine.specs.Network.{edgeOf, networkOf, namingOf, sourcesOf}
+use Rattle.engine.specs.Besides.{besidesOf}
+use Rattle.engine.specs.Demands.{RanOn, verdictTold, logTold, resultOf, Demand1, Demand2, OneSource, Demand3a, Demand3, DemandPlan}
 use Rattle.engine.proofs.Intake.{laid-cells, lent-cells}
 use Rattle.engine.proofs.Ran.{allowed, leaves, by-verdict, cells-are, verdict-is, log-published, length-figure, length-whole}
 use Rattle.engine.proofs.Sources.{only-source, first-row, single}
+use Rattle.engine.proofs.Left.{besides-carried}
 use Rattle.engine.proofs.Copies.{result-copied}
 use Rattle.engine.proofs.Beyond.{beyond}
 use Rattle.engine.proofs.Refused.{refused-exactly}
@@ -78,9 +81,12 @@ demand2 request lent =
           (λ v l. result-copied request lent ran t distances v (omega arith)) (namingOf h ws) _ _ (left .below)
           (allowed request lent ran .source-there) (λ v l. result-copied request lent ran t parents v (omega arith))
           (left .parent-marks (sym (verdict-is request lent ran) ∙ t) some);
+      besides = λ ran t.
+          besides-carried h (allowed request lent ran) ws _ _ (result-copied request lent ran t)
+          (leaves request lent ran .besides (sym (verdict-is request lent ran) ∙ t));
     }
 
--- In fewer words, where there is one source: methods 1 and 2.
+-- In fewer words, where there is one source: every method.
 pub one-source : (request : List ℕ) (lent : Lent) → RanOn request lent → OneSource request lent
 one-source request lent ran =
     let h = headerIn request in
@@ -96,6 +102,13 @@ one-source request lent ran =
             parents = d .parent-marks ran t marked;
           };
     }
+
+-- Method 3's own rule, without the table: its distances and parents are those of synchronous passes; no others are (graph's `one-result`).
+pub synchronous-passes : (request : List ℕ) (lent : Lent) → RanOn request lent → headerIn request .method ≡ 3 → verdictTold request lent ≡ 0
+    → Synchronous (edgeOf (wordsIn request)) (headerIn request .edges) far (headerIn request .vertices) (headerIn request .source)
+    (resultOf request lent distances) (resultOf request lent parents)
+unfolding besidesOf
+synchronous-passes request lent ran three t = rw three at (demand2 request lent .besides ran t)
 
 -- Demand 3: what the log tells, of two runs and of one.
 pub demand3a : Demand3a

@@ -26,6 +26,7 @@ use Rattle.graph.specs.Shortest.{Distances, Parents, Shortest}
 use Rattle.methods.specs.Bank.{Exact}
 use Rattle.engine.specs.Run.{Lent, lengthsOf, refusalOf, startOf, refusedBy, outcome}
 use Rattle.engine.specs.Network.{networkOf, namingOf, sourcesOf, CycleFrom}
+use Rattle.engine.specs.Besides.{besidesOf}
 
 -- A request ran when it met no refusal, or 12 alone; 12 is told after the run.
 abbrev pub RanOn : (request : List ℕ) → Lent → Type 0
@@ -90,7 +91,7 @@ pub record Demand1 (request : List ℕ) (lent : Lent) : Type 0 where
 abbrev pub resultOf : (request : List ℕ) → Lent → Kind → (i : ℕ) → ℤ
 resultOf request lent k i = getD (outcome request lent .results k) i (pos 0)
 
--- Methods 1 and 2 have one source, the header's; a method may have more, with a row of distances for each, and may give no parents.
+-- Methods 1 to 3 have one source, the header's; a method may have more, with a row of distances for each, and may give no parents.
 pub record Demand2 (request : List ℕ) (lent : Lent) : Type 0 where
   pub cycle : RanOn request lent
       → (verdictTold request lent ≡ 1)
@@ -108,8 +109,12 @@ pub record Demand2 (request : List ℕ) (lent : Lent) : Type 0 where
   pub parent-marks : RanOn request lent → verdictTold request lent ≡ 0 → resultsOf (headerIn request) parents .count ≢ 0
       → Parents (networkOf (headerIn request) (wordsIn request)) (namingOf (headerIn request) (wordsIn request)) far
       (headerIn request .vertices) (headerIn request .source) (resultOf request lent distances) (resultOf request lent parents)
+  -- What the method fixes of them besides: in method 3 they are those of synchronous passes, each reading the distances of the pass before, the
+  -- least offer to each vertex, by the lowest edge among equal ones, taken on a strict gain only.
+  pub besides : RanOn request lent → verdictTold request lent ≡ 0
+      → besidesOf (headerIn request) (wordsIn request) (resultOf request lent)
 
--- Of a method with one source that gives parents, in fewer words: both methods are such.
+-- Of a method with one source that gives parents, in fewer words: all of them are such.
 pub record OneSource (request : List ℕ) (lent : Lent) : Type 0 where
   pub cycle : (verdictTold request lent ≡ 1) ↔ NegativeCycle (networkOf (headerIn request) (wordsIn request)) (headerIn request .source)
   pub no-cycle : (verdictTold request lent ≡ 0)

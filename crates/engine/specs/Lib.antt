@@ -1,4 +1,5 @@
 pub mod Run
 pub mod Carry
 pub mod Network
+pub mod Besides
 pub mod Demands

@@ -8,16 +8,17 @@ use Rattle.plans.specs.Blocks.{flat}
 use Rattle.plans.specs.Outline.{instructions}
 use Rattle.plans.specs.Method1 as Method1
 use Rattle.plans.specs.Method2 as Method2
+use Rattle.plans.specs.Method3 as Method3
 use Rattle.plans.specs.Plan.{instructionsOf, planOf, wordCountOf, cellsOf, resultsOf, lengthOf, verdictCell}
 use Rattle.planner.specs.Refusal.{headerRefusal}
 use Rattle.requests.specs.Word.{weightOf}
-use Rattle.requests.specs.Refusal.{logLengthOf, sizesRefusal, inRange, edgeRefusal, entryRefusal, wordRefusal, wordsRefusal, requestRefusal}
+use Rattle.requests.specs.Refusal.{logLengthOf, sizesRefusal, inRange, edgeRefusal, sortedRefusal, entryRefusal, wordRefusal, wordsRefusal, requestRefusal}
 use Rattle.intake.specs.Intake.{stripsOf, sourceOf, laid, copied, startingCells}
 use Rattle.engine.specs.Run.{verdictOf, outcome}
 use Rattle.facts.specs.Corners.{Corners}
 
 pub corners : Corners
-unfolding signedOf bitsOf bit wrapAdd both pick perform packed packedSet decodeAt zerosKept present admissibleAt carry logged cellsAfter logFrom logOf withoutPublishedFrom withoutPublished roundsOf sumOf chargeOf flat instructions Method1.plan Method2.plan instructionsOf planOf cellsOf resultsOf lengthOf headerRefusal weightOf wordCountOf logLengthOf verdictCell sizesRefusal inRange edgeRefusal entryRefusal wordRefusal wordsRefusal requestRefusal stripsOf sourceOf laid startingCells verdictOf copied outcome
+unfolding signedOf bitsOf bit wrapAdd both pick perform packed packedSet decodeAt zerosKept present admissibleAt carry logged cellsAfter logFrom logOf withoutPublishedFrom withoutPublished roundsOf sumOf chargeOf flat instructions Method1.plan Method2.plan Method3.plan instructionsOf planOf cellsOf resultsOf lengthOf headerRefusal weightOf wordCountOf logLengthOf verdictCell sizesRefusal inRange edgeRefusal sortedRefusal entryRefusal wordRefusal wordsRefusal requestRefusal stripsOf sourceOf laid startingCells verdictOf copied outcome
 corners =
     record {
       smallest = (refl, refl, refl);

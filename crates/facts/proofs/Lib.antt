@@ -1,2 +1,3 @@
 pub mod Corners
+pub mod Sorted
 pub mod Rules

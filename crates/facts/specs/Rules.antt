@@ -1,4 +1,4 @@
--- The rules as one table of facts: what the definitions of each crate give for literal words, and each of the fourteen numbers from a
+-- The rules as one table of facts: what the definitions of each crate give for literal words, and each of the fifteen numbers from a
 -- request or a foreign plan to its answer. Rests on engine, and on the tables of the crates below.
 use mathlib.Core.Path.{_≡_}
 use mathlib.Core.List.{List, [], _∷_, _++_}
@@ -40,7 +40,7 @@ pub record Rules : Type 0 where
   pub machine : Machine.Facts
   -- Document 02, ask 2: tallies by op, multiplied last
   pub charge : Charge.Facts
-  -- "Plan of method 1", "Plan of method 2", and the limits of "Request words"
+  -- "Plan of method 1", "Plan of method 2", that of method 3, and the limits of "Request words"
   pub plans : Plans.Facts
   -- "Who caused it": headers, writing a plan
   pub planner : Planner.Facts
@@ -50,8 +50,8 @@ pub record Rules : Type 0 where
   pub intake : Intake.Facts
   -- "Who caused it": foreign plans
   pub runner : Runner.Facts
-  -- "1: header missing, or method not 1 or 2."
-  pub one : (requestAnswered [] 17 48 2 2 ≡ byNumber 1) × (requestAnswered (0x3000020000100000 ∷ 0 ∷ []) 17 48 2 2 ≡ byNumber 1)
+  -- "1: header missing, or method not 1 or 2", and "refusal 1 admits" method 3 (document 02, ask 3).
+  pub one : (requestAnswered [] 17 48 2 2 ≡ byNumber 1) × (requestAnswered (0x4000020000100000 ∷ 0 ∷ []) 17 48 2 2 ≡ byNumber 1)
   -- "2: n is 0 or over 32."
   pub two : requestAnswered (0x1000000000100000 ∷ 0 ∷ []) 17 48 2 2 ≡ byNumber 2
   -- "3: m over 128, or not 0 in method 2."
@@ -83,6 +83,10 @@ pub record Rules : Type 0 where
   -- "14 when the to-yard is not below n".
   pub fourteen : (requestAnswered (0x1000020000100000 ∷ 0x0002000000000000 ∷ []) 17 48 2 2 ≡ atPlace 14 0)
       × (requestAnswered (0x1000020000200000 ∷ 0 ∷ 0x0002000000000000 ∷ []) 20 85 2 2 ≡ atPlace 14 1)
+  -- "15 when a lane's to-yard is below the one before it, with the place of that lane, tested after its price" (document 02, ask 3): lanes to 1
+  -- and to 0 of 2 yards, and the second with a price of 1,000,001.
+  pub fifteen : (requestAnswered (0x3000020000200000 ∷ 0x0001000000000000 ∷ 0x0000000000000000 ∷ []) 36 86 2 2 ≡ atPlace 15 1)
+      × (requestAnswered (0x3000020000200000 ∷ 0x0001000000000000 ∷ 0x00000000000F4241 ∷ []) 36 86 2 2 ≡ atPlace 11 1)
   -- "the order is spare bits, from, to, price": both yards bad, spare bits and from-yard, to-yard and price, all four.
   pub fault-order : (requestAnswered (0x1000020000100000 ∷ 0x0202000000000000 ∷ []) 17 48 2 2 ≡ atPlace 13 0)
       × (requestAnswered (0x1000020000100000 ∷ 0x0200000100000000 ∷ []) 17 48 2 2 ≡ atPlace 10 0)
@@ -114,5 +118,7 @@ pub record Rules : Type 0 where
       (outcome (0x2000020000000000 ∷ 0xFFFFFFFF ∷ 0xFFFFFFFF ∷ 0xFFFFFFFF ∷ 0xFFFFFFFF ∷ []) (nines 20 67 2 2) .log))
       ≡ 12 ∷ 6 ∷ 4 ∷ 8 ∷ 4 ∷ 4 ∷ 28 ∷ 0 ∷ [])
       × (weighed (12 ∷ 6 ∷ 4 ∷ 8 ∷ 4 ∷ 4 ∷ 28 ∷ 0 ∷ []) rounds ≡ 116)
-  -- The sources that distances are from: the header's, in both methods.
-  pub sources : (sourcesOf (headerOf 0x1000200008000007) ≡ 7 ∷ []) × (sourcesOf (headerOf 0x2000200000000013) ≡ 19 ∷ [])
+  -- The sources that distances are from: the header's, in every method.
+  pub sources : (sourcesOf (headerOf 0x1000200008000007) ≡ 7 ∷ [])
+      × (sourcesOf (headerOf 0x2000200000000013) ≡ 19 ∷ [])
+      × (sourcesOf (headerOf 0x3000200008000005) ≡ 5 ∷ [])

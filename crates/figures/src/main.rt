@@ -1,4 +1,4 @@
-// Larger networks through the engine: 32 yards in both methods, 60 lanes in method 1, and the figures of their runs.
+// Larger networks through the engine: 32 yards in every method, 60 lanes in method 1, 128 in method 3, and the figures of their runs.
 // Rests on engine and lines; tests/model has the same networks, and expects the same figures.
 use engine::Answer;
 use engine::Report;
@@ -27,6 +27,12 @@ enum Case {
     Sparse,
     // A table with a price for every entry, dear for long lanes.
     Dense,
+    // A circle through all yards and three lanes more to each, sorted: no loss, and many passes that change something.
+    SortedChain,
+    // That circle with a loss of 1, sorted.
+    SortedCircle,
+    // As Ties, sorted; to four of the unreached yards there is no lane.
+    SortedTies,
 }
 
 // The next draw, a number below `k`; `x` is where the draws stand.
@@ -159,6 +165,55 @@ fn dense(x: &mut u64, i: u64) -> u64
     gap * gap + draw(x, 4)
 }
 
+// Lane `i` of the sorted chain's request: four to each yard, the first of them from the yard before it.
+fn sorted_chain(x: &mut u64, i: u64) -> u64
+    requires { ⌜ (now x < 2 ^ 31) × (i < 128) ⌝ }
+    ensures { λ _. ⌜ now (x .exit) < 2 ^ 31 ⌝ }
+{
+    let to = i / 4;
+    if i % 4 == 0 {
+        return climb((to + 31) % 32, to, draw(x, 30));
+    }
+    let from = draw(x, 32);
+    climb(from, to, 100 + draw(x, 400))
+}
+
+// Lane `i` of the sorted circle's request. Lane 0 closes the circle; lanes anywhere have a base of 1 or more.
+fn sorted_circle(x: &mut u64, i: u64) -> u64
+    requires { ⌜ (now x < 2 ^ 31) × (i < 128) ⌝ }
+    ensures { λ _. ⌜ now (x .exit) < 2 ^ 31 ⌝ }
+{
+    let to = i / 4;
+    if i == 0 {
+        return climb(31, 0, MINUS_ONE);
+    }
+    if i % 4 == 0 {
+        return climb(to - 1, to, 0);
+    }
+    let from = draw(x, 32);
+    climb(from, to, 1 + draw(x, 400))
+}
+
+// Lane `i` of the sorted ties' request.
+fn sorted_ties(x: &mut u64, i: u64) -> u64
+    requires { ⌜ (now x < 2 ^ 31) × (i < 128) ⌝ }
+    ensures { λ _. ⌜ now (x .exit) < 2 ^ 31 ⌝ }
+{
+    if 96 <= i {
+        let from = 24 + draw(x, 8);
+        return lane(from, 24 + (i - 96) / 8 * 2, MINUS_ONE - draw(x, 3));
+    }
+    let to = i / 4;
+    if i % 4 == 0 {
+        return lane(to / 3 * 3 + (to + 2) % 3, to, 0);
+    }
+    let from = draw(x, 32);
+    if from < 24 {
+        return lane(from, to, raised(draw(x, 3), stepped(from), stepped(to)));
+    }
+    lane(from, to, MINUS_ONE - draw(x, 3))
+}
+
 // Word `i` of a case's request, counted after the header.
 fn word_of(case: Case, x: &mut u64, i: u64) -> u64
     requires { ⌜ (now x < 2 ^ 31) × (i < 1024) ⌝ }
@@ -170,6 +225,9 @@ fn word_of(case: Case, x: &mut u64, i: u64) -> u64
         Case::Ties => ties(x, i),
         Case::Sparse => sparse(x, i),
         Case::Dense => dense(x, i),
+        Case::SortedChain => sorted_chain(x, i % 128),
+        Case::SortedCircle => sorted_circle(x, i % 128),
+        Case::SortedTies => sorted_ties(x, i % 128),
     }
 }
 
@@ -240,12 +298,12 @@ fn put_run(
     }
 }
 
-// Runs a request and prints that. The log of 32 yards and 60 lanes is the longest of these.
+// Runs a request and prints that. Of these, method 3 needs the most cells, and method 1 the longest log.
 fn show(request: &[u64])
     requires { ⌜ 1 ≤ length (now request) ⌝ }
 {
     let h = planner::read_header(request[0]);
-    let mut cells = [0i64; 1190];
+    let mut cells = [0i64; 8874];
     let mut log = [0u64; 497321];
     let mut distances = [0i64; 32];
     let mut parents = [0i64; 32];
@@ -268,4 +326,11 @@ fn main() {
     show(&table);
     build(Case::Dense, 5, 0x200020000000001F, &mut table);
     show(&table);
+    let mut sorted = [0u64; 129];
+    build(Case::SortedChain, 577, 0x3000200008000000, &mut sorted);
+    show(&sorted);
+    build(Case::SortedCircle, 2, 0x3000200008000000, &mut sorted);
+    show(&sorted);
+    build(Case::SortedTies, 282, 0x3000200008000005, &mut sorted);
+    show(&sorted);
 }

@@ -1,4 +1,4 @@
--- The theorems on Bellman-Ford and Dijkstra, and what they rest on, in order.
+-- The theorems on Bellman-Ford, in place and by Jacobi passes, and on Dijkstra, and what they rest on, in order.
 -- Rests on the definitions.
 pub mod Test
 pub mod Int
@@ -7,6 +7,10 @@ pub mod Walk
 pub mod Certificate
 pub mod Parents
 pub mod Relax
+pub mod Passes
 pub mod BellmanFord
+pub mod Jacobi
+pub mod Synchronous
+pub mod Sweep
 pub mod Dijkstra
 pub mod SameEdges

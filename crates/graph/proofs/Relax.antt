@@ -1,136 +1,157 @@
--- What relaxing one edge does to a vertex, and what it keeps of distances, walks and parents.
--- Rests on the certificate and on parents.
+-- A step in which each vertex keeps its distance or takes a lesser offer, whatever edges are looked at: what it keeps of distances, walks and
+-- parents. Rests on the certificate and on parents.
 use mathlib.Core.Path.{_≡_, refl, sym, ap, _∙_}
 use mathlib.Core.Logic.{inl, inr, _≢_}
-use mathlib.Core.Bool.{Bool, true, false, cond, _&&_}
+use mathlib.Core.Bool.{true, false, _&&_}
+use mathlib.Core.List.{[]}
 use Prim.Native.Nat.{ℕ, suc, _*_, _<_, _≤_}
 use native.Mathlib.Omega.{arith}
-use borrow.Author.Tests.{eqb-true, eqb-false}
+use borrow.Author.Tests.{eqb-true, eq-eqb}
 use lib.Dec.{eqb}
 use lib.IntN.{ℤ, pos, negsuc, natAbs, _+ℤ_}
-use lib.Signed.{_≤ℤ_, _<ℤ_, ltZ}
+use lib.Signed.{ltZ, _≤ℤ_, _<ℤ_}
 use Rattle.graph.specs.Walk.{Edge, Below}
-use Rattle.graph.specs.BellmanFord.{network, numbered, State, offer, gain, relaxed, Within}
+use Rattle.graph.specs.BellmanFord.{network, numbered, State, start, offer, Within}
 use Rattle.graph.proofs.Test.{by-test, and-both, and-not}
 use Rattle.graph.proofs.Int.{arithℤ, sum, abs-add, ltZ-true, ltZ-false, lt-ltZ}
 use Rattle.graph.proofs.Walk.{one-more}
 use Rattle.graph.proofs.Certificate.{Sound}
 use Rattle.graph.proofs.Parents.{Parent, Ranked}
 
-module _ (edge : ℕ → Edge) (far : ℤ) (i : ℕ) (a : State) where
-  -- The edge begins at u; b is a after it is relaxed.
-  abbrev u : ℕ
-  u = edge i .from
+pub start-within : (far : ℤ) (s W : ℕ) → Within far (0 * W) (start far s)
+start-within far s W v = by-test (eqb v s) (λ e. inr (rw e (omega arith))) (λ e. inl (rw e))
 
-  abbrev b : State
-  b = relaxed edge far i a
+-- The test that an edge's from-vertex is reached and its offer less than x.
+module _ (edge : ℕ → Edge) (far : ℤ) (i : ℕ) (a : State) (x : ℤ) where
+  pub less-yes : (ltZ (a .dist (edge i .from)) far && ltZ (offer edge i a) x) ≡ true → (a .dist (edge i .from) <ℤ far) × (offer edge i a <ℤ x)
+  less-yes e = let r = and-both (ltZ (a .dist (edge i .from)) far) (ltZ (offer edge i a) x) e in (ltZ-true (r .0), ltZ-true (r .1))
 
-  pub gain-yes : gain edge far i a ≡ true → (a .dist (edge i .from) <ℤ far) × (offer edge i a <ℤ a .dist (edge i .to))
-  gain-yes e = let r = and-both (ltZ (a .dist u) far) (ltZ (offer edge i a) (a .dist (edge i .to))) e in (ltZ-true (r .0), ltZ-true (r .1))
+  pub less-no : (ltZ (a .dist (edge i .from)) far && ltZ (offer edge i a) x) ≡ false → a .dist (edge i .from) <ℤ far → x ≤ℤ offer edge i a
+  less-no e h = ltZ-false (and-not (ltZ (a .dist (edge i .from)) far) (ltZ (offer edge i a) x) e (lt-ltZ h))
 
-  pub gain-no : gain edge far i a ≡ false → a .dist (edge i .from) <ℤ far → a .dist (edge i .to) ≤ℤ offer edge i a
-  gain-no e h = ltZ-false (and-not (ltZ (a .dist u) far) (ltZ (offer edge i a) (a .dist (edge i .to))) e (lt-ltZ h))
+-- What becomes of v in the step from a to b.
+pub data Change (edge : ℕ → Edge) (m : ℕ) (far : ℤ) (a b : State) (v : ℕ) : Type 0 where
+  lowered : (i : ℕ) → i < m → edge i .to ≡ v → a .dist (edge i .from) <ℤ far → offer edge i a <ℤ a .dist v →
+      b .dist v ≡ offer edge i a → b .parent v ≡ pos i → Change edge m far a b v
+  kept : b .dist v ≡ a .dist v → b .parent v ≡ a .parent v → Change edge m far a b v
 
-  -- A ghost rank goes along: a lowered vertex gets one above its new parent's.
-  module _ (rank : ℕ → ℕ) where
-    abbrev ranked : ℕ → ℕ
-    ranked v = cond (gain edge far i a && eqb (edge i .to) v) (suc (rank u)) (rank v)
-
-    data Change (v : ℕ) (d p : ℤ) (r : ℕ) : Type 0 where
-      lowered : edge i .to ≡ v → a .dist u <ℤ far → offer edge i a <ℤ a .dist v → d ≡ offer edge i a → p ≡ pos i → r ≡ suc (rank u) → Change v d p r
-      kept : (gain edge far i a ≡ true → edge i .to ≢ v) → d ≡ a .dist v → p ≡ a .parent v → r ≡ rank v → Change v d p r
-
-    change : (v : ℕ) → Change v (b .dist v) (b .parent v) (ranked v)
-    change v = go (gain edge far i a && eqb (edge i .to) v) refl
-      where
-        go : (t : Bool) → (gain edge far i a && eqb (edge i .to) v) ≡ t →
-            Change v (cond t (offer edge i a) (a .dist v)) (cond t (pos i) (a .parent v)) (cond t (suc (rank u)) (rank v))
-        go true e =
-            let r = and-both (gain edge far i a) (eqb (edge i .to) v) e in
-            let t = eqb-true (edge i .to) v (r .1) in
-            let g = gain-yes (r .0) in
-            lowered t (g .0) (rw t at (g .1)) refl refl refl
-        go false e = kept (λ g. eqb-false (edge i .to) v (and-not (gain edge far i a) (eqb (edge i .to) v) e g)) refl refl refl
-
-  -- Where the rank does not matter.
-  plain : (v : ℕ) → Change (λ v. 0) v (b .dist v) (b .parent v) (ranked (λ v. 0) v)
-  plain = change (λ v. 0)
-
-  pub lower : (v : ℕ) → b .dist v ≤ℤ a .dist v
-  lower v = elim (plain v) [ lowered t h k d p r ↦ omega arithℤ | kept w d p r ↦ omega arithℤ ]
-
-  pub relaxes : a .dist (edge i .from) <ℤ far → b .dist (edge i .to) ≤ℤ offer edge i a
-  relaxes h =
-      elim (plain (edge i .to)) [
-        | lowered t h k d p r ↦ omega arithℤ
-        | kept w d p r ↦ by-test (gain edge far i a) (λ g. absurd (w g refl)) (λ g. omega (arithℤ, gain-no g h))
-      ]
-
-  pub still-within : (c W : ℕ) → natAbs (edge i .weight) ≤ W → Within far (c * W) a → Within far (suc c * W) b
-  still-within c W l p v =
-      elim (plain v) [
-        | lowered t h k d m r ↦ elim (p u) [ inl e ↦ absurd (omega arithℤ) | inr e ↦ inr (omega (arith, ap natAbs d, abs-add (a .dist u) (edge i .weight))) ]
-        | kept w d m r ↦ elim (p v) [ inl e ↦ inl (d ∙ e) | inr e ↦ inr (omega (arith, ap natAbs d)) ]
-      ]
-
+-- What holds of distances and parents throughout.
+pub record Inv (edge : ℕ → Edge) (m n s : ℕ) (far : ℤ) (st : State) : Type 0 where
+  pub low : (v : ℕ) → st .dist v ≤ℤ far
+  pub sound : Sound (network edge m) far n s (st .dist)
+  pub parents : Ranked (network edge m) (numbered edge m) far n s (st .dist) (st .parent)
   -- An unreached vertex has no parent, and neither has the source while its distance is 0.
-  pub still-blank : ((v : ℕ) → a .dist v ≤ℤ far) → ((v : ℕ) → a .dist v ≡ far → a .parent v ≡ negsuc 0) → (v : ℕ) → b .dist v ≡ far → b .parent v ≡ negsuc 0
-  still-blank l p v e = elim (plain v) [ lowered t h k d q r ↦ absurd (omega (arithℤ, l v)) | kept w d q r ↦ q ∙ p v (sym d ∙ e) ]
+  pub blank : (v : ℕ) → st .dist v ≡ far → st .parent v ≡ negsuc 0
+  pub root : st .dist s ≡ pos 0 → st .parent s ≡ negsuc 0
 
-  pub still-root : (s : ℕ) → a .dist s ≤ℤ pos 0 → (a .dist s ≡ pos 0 → a .parent s ≡ negsuc 0) → b .dist s ≡ pos 0 → b .parent s ≡ negsuc 0
-  still-root s l p e = elim (plain s) [ lowered t h k d q r ↦ absurd (omega arithℤ) | kept w d q r ↦ q ∙ p (sym d ∙ e) ]
+module _ (edge : ℕ → Edge) (m n s : ℕ) (far : ℤ) where
+  pub begins : pos 0 <ℤ far → Inv edge m n s far (start far s)
+  begins h =
+      record {
+        low = λ v. by-test (eqb v s) (λ e. rw e (omega arithℤ)) (λ e. rw e (omega arithℤ));
+        sound =
+            record {
+              start = rw (eq-eqb s s refl) (omega arithℤ);
+              begun = rw (eq-eqb s s refl) h;
+              walks = λ v l k. by-test (eqb v s) (λ e. ([], sym (eqb-true v s e), rw e)) (λ e. absurd (unreached v e k));
+            };
+        parents = record { rank = λ v. 0; each = λ v l k ne. by-test (eqb v s) (λ e. absurd (ne (eqb-true v s e))) (λ e. absurd (unreached v e k)) };
+        blank = λ v e. refl;
+        root = λ e. refl;
+      }
+    where
+      unreached : (v : ℕ) → eqb v s ≡ false → ¬ (start far s .dist v <ℤ far)
+      unreached v e k = let k : far <ℤ far = rw e at k in omega arithℤ
 
-  module _ (m n s : ℕ) (im : i < m) (below : Below (network edge m) n) where
-    pub still-sound : Sound (network edge m) far n s (a .dist) → Sound (network edge m) far n s (b .dist)
+module _ (edge : ℕ → Edge) (m : ℕ) (far : ℤ) (a b : State) (change : (v : ℕ) → Change edge m far a b v) where
+  pub lower : (v : ℕ) → b .dist v ≤ℤ a .dist v
+  lower v = elim (change v) [ lowered i l t h k d p ↦ omega arithℤ | kept d p ↦ omega arithℤ ]
+
+  pub still-within : (c W : ℕ) → ((i : ℕ) → i < m → natAbs (edge i .weight) ≤ W) → Within far (c * W) a → Within far (suc c * W) b
+  still-within c W weights p v =
+      elim (change v) [
+        | lowered i l t h k d _ ↦
+            let u = edge i .from in
+            elim (p u) [ inl e ↦ absurd (omega arithℤ) | inr e ↦ inr (omega (arith, ap natAbs d, weights i l, abs-add (a .dist u) (edge i .weight))) ]
+        | kept d _ ↦ elim (p v) [ inl e ↦ inl (d ∙ e) | inr e ↦ inr (omega (arith, ap natAbs d)) ]
+      ]
+
+  module _ (n s : ℕ) (below : Below (network edge m) n) where
+    still-sound : Sound (network edge m) far n s (a .dist) → Sound (network edge m) far n s (b .dist)
     still-sound p =
         record {
           start = omega (arithℤ, lower s, p .start);
           begun = omega (arithℤ, lower s, p .begun);
-          walks = λ v l h. elim (plain v) [
-            | lowered t r k d q _ ↦ one-more (network edge m) s v (edge i) (a .dist u) (b .dist v) (i, im, refl) t (sym d) (p .walks u (below (edge i) (i, im, refl) .0) r)
-            | kept _ d q _ ↦ rw d (p .walks v l (omega arithℤ))
+          walks = λ v l h. elim (change v) [
+            | lowered i im t r k d _ ↦
+                let from = edge i .from in
+                one-more (network edge m) s v (edge i) (a .dist from) (b .dist v) (i, im, refl) t (sym d) (p .walks from (below (edge i) (i, im, refl) .0) r)
+            | kept d _ ↦ rw d (p .walks v l (omega arithℤ))
           ];
         }
 
-    pub still-parents : Ranked (network edge m) (numbered edge m) far n s (a .dist) (a .parent) → Ranked (network edge m) (numbered edge m) far n s (b .dist) (b .parent)
-    still-parents p = record { rank = ranked (p .rank); each = each }
-      where
-        same-rank : (v : ℕ) → a .dist v ≤ℤ b .dist v → ranked (p .rank) v ≡ p .rank v
-        same-rank v l = elim (change (p .rank) v) [ lowered t h k d q r ↦ absurd (omega arithℤ) | kept w d q r ↦ r ]
+    -- A ghost rank goes along: a lowered vertex gets one above its new parent's.
+    abbrev rise : (rank : ℕ → ℕ) (v : ℕ) → Change edge m far a b v → ℕ
+    rise rank v (lowered i l t h k d p) = suc (rank (edge i .from))
+    rise rank v (kept d p) = rank v
 
-        each : (v : ℕ) → v < n → b .dist v <ℤ far → v ≢ s → Parent (network edge m) (numbered edge m) far (b .dist) (b .parent) (ranked (p .rank)) v
-        each v l h ne =
-            elim (change (p .rank) v) [
-              | lowered t f k d q r ↦ record {
-                mark = i;
-                marked = q;
-                edge = edge i;
-                real = (i, im, refl);
-                named = (im, refl);
-                ends = t;
-                reached = omega (arithℤ, lower u);
-                covers = omega (arithℤ, lower u, sum (b .dist u) (edge i .weight), sum (a .dist u) (edge i .weight));
-                falls = λ (x : b .dist u +ℤ edge i .weight ≡ b .dist v).
-                    omega (arith, same-rank u (omega (arithℤ, sum (b .dist u) (edge i .weight), sum (a .dist u) (edge i .weight))));
-              }
-              | kept w d q r ↦
-                  let o = p .each v l (omega arithℤ) ne in
-                  let f = o .edge .from in
-                  let g = o .edge .weight in
-                  record {
-                    mark = o .mark;
-                    marked = q ∙ o .marked;
-                    edge = o .edge;
-                    real = o .real;
-                    named = o .named;
-                    ends = o .ends;
-                    reached = omega (arithℤ, lower f, o .reached);
-                    covers = omega (arithℤ, lower f, o .covers, sum (b .dist f) g, sum (a .dist f) g);
-                    falls = λ (x : b .dist f +ℤ g ≡ b .dist v).
-                        omega (
-                          arith,
-                          same-rank f (omega (arithℤ, o .covers, sum (b .dist f) g, sum (a .dist f) g)),
-                          o .falls (omega (arithℤ, lower f, o .covers, sum (b .dist f) g, sum (a .dist f) g)),
-                        );
-                  }
-            ]
+    still-parents : Ranked (network edge m) (numbered edge m) far n s (a .dist) (a .parent) → Ranked (network edge m) (numbered edge m) far n s (b .dist) (b .parent)
+    still-parents p = record { rank = ranked; each = λ v l h ne. each v l h ne (change v) refl }
+      where
+        ranked : ℕ → ℕ
+        ranked v = rise (p .rank) v (change v)
+
+        same-rank : (v : ℕ) → a .dist v ≤ℤ b .dist v → ranked v ≡ p .rank v
+        same-rank v l = go (change v)
+          where
+            go : (c : Change edge m far a b v) → rise (p .rank) v c ≡ p .rank v
+            go (lowered i im t h k d q) = absurd (omega arithℤ)
+            go (kept d q) = refl
+
+        each : (v : ℕ) → v < n → b .dist v <ℤ far → v ≢ s → (c : Change edge m far a b v) → rise (p .rank) v c ≡ ranked v →
+            Parent (network edge m) (numbered edge m) far (b .dist) (b .parent) ranked v
+        each v l h ne (lowered i im t f k d q) r =
+            let u = edge i .from in
+            record {
+              mark = i;
+              marked = q;
+              edge = edge i;
+              real = (i, im, refl);
+              named = (im, refl);
+              ends = t;
+              reached = omega (arithℤ, lower u);
+              covers = omega (arithℤ, lower u, sum (b .dist u) (edge i .weight), sum (a .dist u) (edge i .weight));
+              falls = λ (x : b .dist u +ℤ edge i .weight ≡ b .dist v).
+                  omega (arith, r, same-rank u (omega (arithℤ, sum (b .dist u) (edge i .weight), sum (a .dist u) (edge i .weight))));
+            }
+        each v l h ne (kept d q) r =
+            let o = p .each v l (omega arithℤ) ne in
+            let f = o .edge .from in
+            let g = o .edge .weight in
+            record {
+              mark = o .mark;
+              marked = q ∙ o .marked;
+              edge = o .edge;
+              real = o .real;
+              named = o .named;
+              ends = o .ends;
+              reached = omega (arithℤ, lower f, o .reached);
+              covers = omega (arithℤ, lower f, o .covers, sum (b .dist f) g, sum (a .dist f) g);
+              falls = λ (x : b .dist f +ℤ g ≡ b .dist v).
+                  omega (
+                    arith,
+                    r,
+                    same-rank f (omega (arithℤ, o .covers, sum (b .dist f) g, sum (a .dist f) g)),
+                    o .falls (omega (arithℤ, lower f, o .covers, sum (b .dist f) g, sum (a .dist f) g)),
+                  );
+            }
+
+    pub still : Inv edge m n s far a → Inv edge m n s far b
+    still p =
+        record {
+          low = λ v. omega (arithℤ, lower v, p .low v);
+          sound = still-sound (p .sound);
+          parents = still-parents (p .parents);
+          blank = λ v e. elim (change v) [ lowered i l t h k d q ↦ absurd (omega (arithℤ, p .low v)) | kept d q ↦ q ∙ p .blank v (sym d ∙ e) ];
+          root = λ e. elim (change s) [ lowered i l t h k d q ↦ absurd (omega (arithℤ, p .sound .start)) | kept d q ↦ q ∙ p .root (sym d ∙ e) ];
+        }

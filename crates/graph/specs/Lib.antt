@@ -1,6 +1,7 @@
--- The definitions: walks, what distances and parents have to be, Bellman-Ford and Dijkstra.
+-- The definitions: walks, what distances and parents have to be, Bellman-Ford in place and by Jacobi passes, Dijkstra.
 -- Rests on the toolchain's library alone.
 pub mod Walk
 pub mod Shortest
 pub mod BellmanFord
+pub mod Jacobi
 pub mod Dijkstra

@@ -13,6 +13,8 @@ facts =
     record {
       strips1 = (refl, refl, refl, refl, refl, refl, refl, refl, refl, refl, refl, refl);
       strips2 = (refl, refl, refl, refl, refl);
+      strips3 = (refl, refl, refl, refl, refl, refl, refl, refl, refl, refl, refl, refl, refl);
       start1 = refl;
+      start3 = refl;
       start2 = refl;
     }

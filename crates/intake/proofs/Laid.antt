@@ -19,15 +19,14 @@ use Rattle.machine.specs.Instruction.{All}
 use Rattle.plans.specs.declared.Header.{Header}
 use Rattle.plans.specs.Blocks.{flat}
 use Rattle.plans.specs.Regions.{cell}
-use Rattle.plans.specs.Method1 as Method1
 use Rattle.plans.specs.Method2 as Method2
 use Rattle.plans.specs.Plan.{Accepted, wordCountOf, cellsOf}
 use Rattle.plans.proofs.Headers.{by-method}
 use Rattle.requests.specs.Word.{fromField, toField, weightOf}
-use Rattle.requests.proofs.Sizes.{cells-one, cells-two}
-use Rattle.intake.specs.declared.Part.the-variants.{From, To, Weight, Entry}
+use Rattle.requests.proofs.Sizes.{cells-one, cells-two, cells-three}
+use Rattle.intake.specs.declared.Part.the-variants.{Entry}
 use Rattle.intake.specs.declared.Strip.{Strip}
-use Rattle.intake.specs.Intake.{strip, stripsOf, Source, nothing, sourceIn, covers, sourceFrom, sourceOf, orFar, partOf, laid, copied, startingCells, stripNumbers, StripFits, empty, mostStrips, padded}
+use Rattle.intake.specs.Intake.{strip, edgeStrips, stripsOf, Source, nothing, sourceIn, covers, sourceFrom, sourceOf, orFar, partOf, laid, copied, startingCells, stripNumbers, StripFits, empty, mostStrips, padded}
 use Rattle.intake.proofs.Copied.{ones, copied-long, copied-at, copied-rest, copied-same, set-at, set-beside}
 
 -- ---- which source a cell has
@@ -127,14 +126,17 @@ module _ (ws : List ℕ) (words count : ℕ) (lent : List ℤ) (enough : count �
 -- ---- a header's strips
 
 module _ (h : Header) where
-  strips-one : h .method ≡ 1
-      → stripsOf h ≡ strip 0 (h .edges) 0 From ∷ strip (h .edges) (h .edges) 0 To ∷ strip (2 * h .edges) (h .edges) 0 Weight ∷ []
+  strips-one : h .method ≡ 1 → stripsOf h ≡ edgeStrips (h .edges) (h .edges) (2 * h .edges)
   unfolding stripsOf
   strips-one e = rw e
 
   strips-two : h .method ≡ 2 → stripsOf h ≡ strip 0 (h .vertices * h .vertices) 0 Entry ∷ []
   unfolding stripsOf
   strips-two e = rw e
+
+  strips-three : h .method ≡ 3 → stripsOf h ≡ edgeStrips (h .edges) (h .edges + 1) (2 * h .edges + 1)
+  unfolding stripsOf
+  strips-three e = rw e
 
 -- ---- the array of a header's strips
 
@@ -159,6 +161,7 @@ strips-fit =
     by-method (λ h. All (StripFits (wordCountOf h) (cellsOf h)) (stripsOf h))
     (λ n m source a. search arith)
     (λ n source a. search arith)
+    (λ n m source a. search arith)
 
 -- ---- the whole
 
@@ -237,24 +240,26 @@ module _ (h : Header) (ws : List ℕ) (lent : List ℤ) where
       ∙ ap (λ (ts : List Strip). laid ws (sourceFrom ts k nothing)) e
       ∙ ap (laid ws) (source-in k rs₀ r rs i nothing p l b)
 
-  module _ (one : h .method ≡ 1) (i : ℕ) (l : i < h .edges) where
-    pub from-laid : cellAt (startingCells h ws lent) (cell (Method1.starts (h .vertices) (h .edges)) (Method1.from i))
-        ≡ pos (fromField (getD ws i 0))
-    from-laid =
-        rw zero-add
-        (rw zero-add at (named [] _ _ (strips-one h one) i i (omega arith) l (search arith) (omega (arith, cells-one h one))))
+  -- Edges, with their to-vertices and weights from these cells on.
+  pub record EdgesLaid (to weight : ℕ) : Type 0 where
+    pub from-is : (i : ℕ) → i < h .edges → cellAt (startingCells h ws lent) (0 + i) ≡ pos (fromField (getD ws i 0))
+    pub to-is : (i : ℕ) → i < h .edges → cellAt (startingCells h ws lent) (to + i) ≡ pos (toField (getD ws i 0))
+    pub weight-is : (i : ℕ) → i < h .edges → cellAt (startingCells h ws lent) (weight + i) ≡ weightOf (getD ws i 0)
 
-    pub to-laid : cellAt (startingCells h ws lent) (cell (Method1.starts (h .vertices) (h .edges)) (Method1.to i))
-        ≡ pos (toField (getD ws i 0))
-    to-laid =
-        rw zero-add at
-        (named (_ ∷ []) _ _ (strips-one h one) (h .edges + i) i refl l (search arith) (omega (arith, cells-one h one)))
+  edges-laid : (to weight : ℕ) → stripsOf h ≡ edgeStrips (h .edges) to weight
+      → h .edges ≤ to → to + h .edges ≤ weight → weight + h .edges ≤ cellsOf h → EdgesLaid to weight
+  edges-laid to weight strips after after-to inside =
+      record {
+        from-is = λ i l. rw zero-add (rw zero-add at (named [] _ _ strips i i (omega arith) l (search arith) (omega arith)));
+        to-is = λ i l. rw zero-add at (named (_ ∷ []) _ _ strips (to + i) i refl l (search arith) (omega arith));
+        weight-is = λ i l. rw zero-add at (named (_ ∷ _ ∷ []) _ _ strips (weight + i) i refl l tt (omega arith));
+      }
 
-    pub weight-laid : cellAt (startingCells h ws lent) (cell (Method1.starts (h .vertices) (h .edges)) (Method1.weight i))
-        ≡ weightOf (getD ws i 0)
-    weight-laid =
-        rw zero-add at
-        (named (_ ∷ _ ∷ []) _ _ (strips-one h one) (2 * h .edges + i) i refl l tt (omega (arith, cells-one h one)))
+  pub edges-one : h .method ≡ 1 → EdgesLaid (h .edges) (2 * h .edges)
+  edges-one e = edges-laid _ _ (strips-one h e) (omega arith) (omega arith) (omega (arith, cells-one h e))
+
+  pub edges-three : h .method ≡ 3 → EdgesLaid (h .edges + 1) (2 * h .edges + 1)
+  edges-three e = edges-laid _ _ (strips-three h e) (omega arith) (omega arith) (omega (arith, cells-three h e))
 
   pub entry-laid : h .method ≡ 2 → (u j : ℕ) → u < h .vertices → j < h .vertices
       → cellAt (startingCells h ws lent) (cell (Method2.starts (h .vertices)) (Method2.U (u * h .vertices + j)))

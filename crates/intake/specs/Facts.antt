@@ -28,9 +28,26 @@ pub record Facts : Type 0 where
       × (sourceOf (headerOf 0x200020000000001F) 0 ≡ field 0 Entry)
       × (sourceOf (headerOf 0x200020000000001F) 1023 ≡ field 1023 Entry)
       × (sourceOf (headerOf 0x200020000000001F) 1024 ≡ nothing)
+  -- Ask 3: "from 0, B m (one cell), to m+1, price 2m+1", the same.
+  pub strips3 : (sourceOf (headerOf 0x3000020000100000) 0 ≡ field 0 From)
+      × (sourceOf (headerOf 0x3000020000100000) 1 ≡ nothing)
+      × (sourceOf (headerOf 0x3000020000100000) 2 ≡ field 0 To)
+      × (sourceOf (headerOf 0x3000020000100000) 3 ≡ field 0 Weight)
+      × (sourceOf (headerOf 0x3000020000100000) 4 ≡ nothing)
+      × (sourceOf (headerOf 0x300020000800001F) 127 ≡ field 127 From)
+      × (sourceOf (headerOf 0x300020000800001F) 128 ≡ nothing)
+      × (sourceOf (headerOf 0x300020000800001F) 129 ≡ field 0 To)
+      × (sourceOf (headerOf 0x300020000800001F) 256 ≡ field 127 To)
+      × (sourceOf (headerOf 0x300020000800001F) 257 ≡ field 0 Weight)
+      × (sourceOf (headerOf 0x300020000800001F) 384 ≡ field 127 Weight)
+      × (sourceOf (headerOf 0x300020000800001F) 385 ≡ nothing)
+      × (sourceOf (headerOf 0x3000010000000000) 0 ≡ nothing)
   -- "Intake fills the first 3m; the rest start at 0": lanes 1 to 0 at -5 and 0 to 1 at 1,000,000 laid into 22 lent cells, two more than needed.
   pub start1 : startingCells (headerOf 0x1000020000200000) (0x01000000FFFFFFFB ∷ 0x00010000000F4240 ∷ []) (replicate 22 (pos 9))
       ≡ (pos 1 ∷ pos 0 ∷ pos 0 ∷ pos 1 ∷ negsuc 4 ∷ pos 1000000 ∷ []) ++ replicate 14 (pos 0) ++ (pos 9 ∷ pos 9 ∷ [])
+  -- Ask 3: "Intake fills from, to and price; the rest start at 0": lanes 1 to 0 at -5 and 0 to 1 at 1,000,000, of 36 cells, and one more.
+  pub start3 : startingCells (headerOf 0x3000020000200000) (0x01000000FFFFFFFB ∷ 0x00010000000F4240 ∷ []) (replicate 37 (pos 9))
+      ≡ (pos 1 ∷ pos 0 ∷ pos 0 ∷ pos 0 ∷ pos 1 ∷ negsuc 4 ∷ pos 1000000 ∷ []) ++ replicate 29 (pos 0) ++ (pos 9 ∷ [])
   -- "Intake writes the prices to U, FAR for -1; the rest start at 0."
   pub start2 : startingCells (headerOf 0x2000020000000000) (0 ∷ 0x00000000FFFFFFFF ∷ 0x00000000000F4240 ∷ 7 ∷ []) (replicate 22 (pos 9))
       ≡ (pos 0 ∷ pos 274877906944 ∷ pos 1000000 ∷ pos 7 ∷ []) ++ replicate 16 (pos 0) ++ (pos 9 ∷ pos 9 ∷ [])

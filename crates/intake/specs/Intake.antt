@@ -22,14 +22,16 @@ use Rattle.intake.specs.declared.Strip.{Strip}
 abbrev pub strip : (at count word : ℕ) (part : Part) → Strip
 strip at count word part = record { at = at; count = count; word = word; part = part }
 
+-- Of m edges: from-vertices from cell 0 on, to-vertices and weights from these.
+abbrev pub edgeStrips : (m to weight : ℕ) → List Strip
+edgeStrips m to weight = strip 0 m 0 From ∷ strip to m 0 To ∷ strip weight m 0 Weight ∷ []
+
 unfoldable pub stripsOf : Header → List Strip
 stripsOf h =
     let n = h .vertices in
     let m = h .edges in
     byMethod (h .method) []
-    ((strip 0 m 0 From ∷ strip m m 0 To ∷ strip (2 * m) m 0 Weight ∷ [])
-    ∷ (strip 0 (n * n) 0 Entry ∷ [])
-    ∷ [])
+    (edgeStrips m m (2 * m) ∷ (strip 0 (n * n) 0 Entry ∷ []) ∷ edgeStrips m (m + 1) (2 * m + 1) ∷ [])
 
 -- ---- where a needed cell's first number comes from
 

@@ -7,7 +7,7 @@ ghost use lib.IntN.{pos};
 ghost use lib.ListN.{length, drop};
 ghost use lib.Seq.{sets};
 ghost use Rattle.plans.specs.Plan.{Accepted, wordCountOf, cellsOf};
-ghost use Rattle.intake.specs.Intake.{strip, stripsOf, partOf, copied, startingCells, stripNumbers, StripFits, padded};
+ghost use Rattle.intake.specs.Intake.{strip, edgeStrips, stripsOf, partOf, copied, startingCells, stripNumbers, StripFits, padded};
 
 // A field of a word. Entry is method 2's weight, -1 as FAR.
 pub enum Part {
@@ -38,6 +38,17 @@ impl Strip {
     }
 }
 
+// The strips of m edges: from-vertices from cell 0 on, to-vertices and weights from these.
+fn edge_strips(m: usize, to: usize, weight: usize) -> [Strip; 3]
+    ensures { λ r. ⌜ r ≡ edgeStrips m to weight ⌝ }
+{
+    [
+        Strip::new(0, m, 0, Part::From),
+        Strip::new(to, m, 0, Part::To),
+        Strip::new(weight, m, 0, Part::Weight),
+    ]
+}
+
 // The strips of the header's method, then empty ones.
 fn strips_of(h: Header) -> [Strip; 3]
     requires { ⌜ Accepted h ⌝ }
@@ -46,14 +57,12 @@ fn strips_of(h: Header) -> [Strip; 3]
     let n = h.vertices as usize;
     let m = h.edges as usize;
     let empty = Strip::new(0, 0, 0, Part::From);
-    if h.method == 1 {
-        return [
-            Strip::new(0, m, 0, Part::From),
-            Strip::new(m, m, 0, Part::To),
-            Strip::new(2 * m, m, 0, Part::Weight),
-        ];
+    let method = h.method;
+    match method {
+        1 => edge_strips(m, m, 2 * m),
+        2 => [Strip::new(0, n * n, 0, Part::Entry), empty, empty],
+        _ => edge_strips(m, m + 1, 2 * m + 1),
     }
-    [Strip::new(0, n * n, 0, Part::Entry), empty, empty]
 }
 
 fn part_of(part: Part, word: u64) -> i64

@@ -1,11 +1,11 @@
 -- What the machine's tests leave in cells, as laws for `simp`; and where a sum does not wrap.
 -- Rests on the machine's numbers.
-use mathlib.Core.Path.{_≡_, refl, sym, _∙_}
+use mathlib.Core.Path.{_≡_, refl}
 use mathlib.Core.Logic.{_↔_}
-use mathlib.Core.Bool.{Bool, true, false, cond, _&&_, _||_, and-comm}
+use mathlib.Core.Bool.{Bool, true, false, cond, _&&_, _||_, and-true, and-false, and-comm}
 use Prim.Native.Nat.{ℕ, _+_, _^_, _<_, _≤_}
 use native.Mathlib.Omega.{arith}
-use borrow.Author.Tests.{eq-eqb, ne-eqb, eqb-true, eqb-false}
+use borrow.Author.Tests.{eqb-true}
 use lib.Dec.{eqb}
 use lib.IntN.{ℤ, pos, negsuc, natAbs, _+ℤ_}
 use lib.Signed.{mag}
@@ -13,12 +13,6 @@ use Rattle.machine.specs.Effect.{bit, both, pick, wrapAdd}
 use Rattle.machine.proofs.Exact.{wrap-exact}
 use Rattle.graph.proofs.Test.{by-test}
 use Rattle.graph.proofs.Int.{abs-add}
-
-pub eqb-sym : (a b : ℕ) → eqb a b ≡ eqb b a
-eqb-sym a b =
-    by-test (eqb a b)
-    (λ e. e ∙ sym (eq-eqb b a (sym (eqb-true a b e))))
-    (λ e. e ∙ sym (ne-eqb b a (λ q. eqb-false a b e (sym q))))
 
 pub both-bit : (a b : Bool) → both (bit a) (bit b) ≡ bit (a && b)
 unfolding both bit
@@ -51,14 +45,17 @@ unfolding bit
 bit-zero true = (λ e. cc, λ e. cc)
 bit-zero false = (λ e. refl, λ e. refl)
 
--- A flag c, raised where the test b passes at the place e.
+-- A flag c, raised where the test b passes.
+pub raise : (b c : Bool) → cond b (bit b) (bit c) ≡ bit (c || b)
+raise true true = refl
+raise true false = refl
+raise false true = refl
+raise false false = refl
+
+-- .. at the place e.
 pub raised : (b c e : Bool) (x : ℤ) → (e ≡ true → x ≡ bit c) → cond (b && e) (bit (b && e)) x ≡ cond e (bit (c || b)) x
-raised true true true x h = refl
-raised true false true x h = refl
-raised true c false x h = refl
-raised false true true x h = h refl
-raised false false true x h = h refl
-raised false c false x h = refl
+raised b c true x h = rw (and-true b, h refl) (raise b c)
+raised b c false x h = rw (and-false b)
 
 -- A test that counts at the place w alone.
 pub and-at : (a : ℕ → Bool) (b : Bool) (w k : ℕ) → ((a k && b) && eqb w k) ≡ ((b && a w) && eqb w k)

@@ -1,56 +1,29 @@
 -- Method 1's lines for an edge on named stores: its relaxation and its check are those of Bellman-Ford.
 -- Rests on stores, names, bits and filled regions.
 use mathlib.Core.Path.{_≡_, refl, ap, _∙_}
-use mathlib.Core.Logic.{_⊎_, inl, inr}
 use mathlib.Core.Bool.{Bool, _&&_, _||_}
-use Prim.Native.Nat.{ℕ, _+_, _^_, _<_, _≤_}
+use Prim.Native.Nat.{ℕ, _+_, _^_, _<_}
 use native.Mathlib.Omega.{arith}
 use borrow.Author.Tests.{eqb-true}
 use lib.Dec.{eqb}
-use lib.IntN.{ℤ, pos, natAbs, _+ℤ_}
+use lib.IntN.{ℤ, pos}
 use lib.Signed.{ltZ}
-use Rattle.machine.specs.Instruction.{Instruction}
-use Rattle.machine.specs.Effect.{bit, wrapAdd}
+use Rattle.machine.specs.Effect.{bit}
 use Rattle.plans.specs.Outline.{middle, vertices, fixed, counted, set, Outline, end, line, run, _▸_, counted-to, start, instructions}
 use Rattle.plans.specs.Method1.{from, to, weight, D, P, Y, X, gather, update, test, relax, check}
 use Rattle.graph.specs.Walk.{Edge}
 use Rattle.graph.specs.BellmanFord.{State, offer, gain, relaxed}
-use Rattle.methods.specs.Method1.{Limited}
-use Rattle.methods.proofs.Steps.{Claim, Kind, Runs, loop}
-use Rattle.methods.proofs.Stores.{numbers}
-use Rattle.methods.proofs.Names.{Name, same, pair, Store}
-use Rattle.methods.proofs.Bits.{eqb-sym, both-bit, pick-bit, raised, and-at, sum-exact}
-use Rattle.methods.proofs.Filled.{upto, upto-zero, upto-here, upto-all, upto-suc}
-
--- ---- the sums that the method forms
-
-module _ (far limit : ℕ) where
-  -- A distance that is far, or near enough for one more edge.
-  abbrev pub Near : ℤ → Type 0
-  Near x = (x ≡ pos far) ⊎ (natAbs x + limit < far)
-
-  -- A distance and a weight.
-  abbrev pub Sum : ℤ → ℤ → Type 0
-  Sum x w = Near x × (natAbs w ≤ limit)
-
-  pub near-exact : far + limit < 2 ^ 63 → (x w : ℤ) → Sum x w → wrapAdd x w ≡ x +ℤ w
-  near-exact fits x w (inl e, l) = sum-exact x w (rw e (omega arith))
-  near-exact fits x w (inr h, l) = sum-exact x w (omega arith)
-
-  -- The instructions as steps on named stores.
-  abbrev pub steps : Kind (Instruction Name) Store
-  steps = numbers same Sum
+use Rattle.methods.specs.Edges.{Limited}
+use Rattle.methods.proofs.Steps.{Claim, Runs, loop}
+use Rattle.methods.proofs.Names.{pair, Store}
+use Rattle.methods.proofs.Bits.{both-bit, pick-bit, raised, and-at}
+use Rattle.methods.proofs.OverEdges.{Near, Sum, steps, near-exact, EdgesAt}
+use Rattle.methods.proofs.Filled.{upto, upto-zero, upto-here, upto-all, upto-find, Refilled, refill-none, refill}
 
 -- ---- what a store holds
 
--- The edges as intake lays them.
 abbrev pub Given : (edge : ℕ → Edge) (m : ℕ) → Store → Type 0
-Given edge m s =
-    record {
-      from : (i : ℕ) → i < m → s (from i) ≡ pos (edge i .from);
-      to : (i : ℕ) → i < m → s (to i) ≡ pos (edge i .to);
-      weight : (i : ℕ) → i < m → s (weight i) ≡ edge i .weight;
-    }
+Given = EdgesAt from to weight
 
 module _ (far : ℕ) (edge : ℕ → Edge) (n m : ℕ) where
   -- What no pass writes. A record type with no name: a proof for a store is, by computation, one for the store after other writes.
@@ -94,8 +67,8 @@ module _ (far limit : ℕ) (edge : ℕ → Edge) (n m source : ℕ) (limited : L
         loop (steps far limit) Selected n _ _ _ (h, h .fixed .far ∙ upto-zero (st .dist) (λ v. pos far) u)
         (λ k t lk (h, x). (
           h,
-          simp (pick-bit, h .fixed .edges .from i l, h .fixed .vertex k lk, h .dist k lk, x, eqb-sym u k)
-              (upto-suc (st .dist) (λ v. pos far) k u),
+          simp (pick-bit, h .fixed .edges .from i l, h .fixed .vertex k lk, h .dist k lk, x)
+              (upto-find (st .dist) (λ v. pos far) k u),
         ))
         (λ t (h, x).
         let e : t (X 1) ≡ st .dist u = x ∙ upto-all (st .dist) (λ v. pos far) n u (limited .from-below i l) in
@@ -117,60 +90,36 @@ module _ (far limit : ℕ) (edge : ℕ → Edge) (n m source : ℕ) (limited : L
     next = relaxed edge (pos far) i st
 
     -- The vertices below k are done.
-    abbrev mix : ℕ → State
-    mix k = record { dist = upto k (next .dist) (st .dist); parent = upto k (next .parent) (st .parent) }
-
     abbrev Updated : ℕ → Store → Type 0
     Updated k t =
-        Holds far edge n m (mix k) flag t
+        Fixed far edge n m t
+        × (t (X 7) ≡ flag)
         × (t (X 2) ≡ offer edge i st)
         × (t (X 4) ≡ bit (ltZ (st .dist u) (pos far)))
         × (t (X 3) ≡ pos i)
+        × Refilled n k (next .dist) (st .dist) (λ v. t (D v))
+        × Refilled n k (next .parent) (st .parent) (λ v. t (P v))
 
     pub relax-runs : (s : Store) → Holds far edge n m st flag s → Does relax (Holds far edge n m next flag) s
     unfolding instructions
     relax-runs s h =
         gather-runs flag (line (set (X (fixed 3)) (counted middle)) ▸ run vertices update ▸ end) _ s h
         (λ t (h, x2, x4).
-        loop (steps far limit) Updated n _ _ _ (
-          record {
-            fixed = h .fixed;
-            dist = λ v lv. h .dist v lv ∙ upto-zero (next .dist) (st .dist) v;
-            parent = λ v lv. h .parent v lv ∙ upto-zero (next .parent) (st .parent) v;
-            flag = h .flag;
-          },
-          x2,
-          x4,
-          refl,
-        )
-        (λ k t lk (h, x2, x4, x3).
-        let to-k = h .fixed .edges .to i l in
-        let y = h .fixed .vertex k lk in
-        let d : t (D k) ≡ st .dist k = h .dist k lk ∙ upto-here (next .dist) (st .dist) k in
-        let p : t (P k) ≡ st .parent k = h .parent k lk ∙ upto-here (next .parent) (st .parent) k in (
-          record {
-            fixed = h .fixed;
-            dist =
-                λ v lv.
-                simp (both-bit, pick-bit, x2, x4, to-k, y, d, test-at k, h .dist v lv)
-                (upto-suc (next .dist) (st .dist) k v);
-            parent =
-                λ v lv.
-                simp (both-bit, pick-bit, x2, x4, x3, to-k, y, d, p, test-at k, h .parent v lv)
-                (upto-suc (next .parent) (st .parent) k v);
-            flag = h .flag;
-          },
+        loop (steps far limit) Updated n _ _ _
+        (h .fixed, h .flag, x2, x4, refl, refill-none (h .dist), refill-none (h .parent))
+        (λ k t lk (f, x7, x2, x4, x3, d, p).
+        let to-k = f .edges .to i l in
+        let y = f .vertex k lk in
+        let was = d .left k lk (omega arith) in (
+          f,
+          x7,
           x2,
           x4,
           x3,
+          refill k lk (λ old. simp (both-bit, pick-bit, x2, x4, to-k, y, old, test-at k)) d,
+          refill k lk (λ old. simp (both-bit, pick-bit, x2, x4, x3, to-k, y, was, old, test-at k)) p,
         ))
-        (λ t (h, _, _, _).
-        record {
-          fixed = h .fixed;
-          dist = λ v lv. h .dist v lv ∙ upto-all (next .dist) (st .dist) n v lv;
-          parent = λ v lv. h .parent v lv ∙ upto-all (next .parent) (st .parent) n v lv;
-          flag = h .flag;
-        }))
+        (λ t (f, x7, _, _, _, d, p). record { fixed = f; dist = d .done; parent = p .done; flag = x7 }))
 
   -- ---- the check: the flag is raised where the edge has a gain
 
@@ -200,7 +149,7 @@ module _ (far limit : ℕ) (edge : ℕ → Edge) (n m source : ℕ) (limited : L
                 simp (both-bit, pick-bit, x2, x4, h .fixed .edges .to i l, h .fixed .vertex k lk, h .dist k lk, h .flag, test-at k)
                 (raised (gain edge (pos far) i st) b (eqb (edge i .to) k) (upto k new old (edge i .to))
                 (λ e. ap (upto k new old) (eqb-true (edge i .to) k e) ∙ upto-here new old k)
-                ∙ rw (eqb-sym (edge i .to) k) (upto-suc new old k (edge i .to)));
+                ∙ upto-find new old k (edge i .to));
           },
           x2,
           x4,

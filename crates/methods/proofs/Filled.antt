@@ -1,14 +1,21 @@
--- A region that is filled place by place, upward.
+-- A region that is filled place by place, upward: for the first time, over what it held, or row by row.
 -- Rests on graph's Test.
 use mathlib.Core.Path.{_≡_, sym, ap, _∙_}
 use mathlib.Core.Bool.{cond}
-use Prim.Native.Nat.{ℕ, suc, _<_}
+use Prim.Native.Nat.{ℕ, suc, _+_, _*_, _/_, _%_, _<_, _≤_}
 use native.Mathlib.Nat.{not-suc-le-zero}
 use native.Mathlib.Omega.{arith}
-use borrow.Author.Tests.{lt-ltb, le-ltb, ltb-true, ltb-false, eqb-true, eqb-false}
+use borrow.Author.Tests.{lt-ltb, le-ltb, ltb-true, ltb-false, eq-eqb, ne-eqb, eqb-true, eqb-false}
+use lib.Arith.{digits-lt, digits-div, digits-mod}
 use lib.Dec.{ltb, eqb}
 use lib.IntN.{ℤ}
 use Rattle.graph.proofs.Test.{by-test}
+
+eqb-sym : (a b : ℕ) → eqb a b ≡ eqb b a
+eqb-sym a b =
+    by-test (eqb a b)
+    (λ e. e ∙ sym (eq-eqb b a (sym (eqb-true a b e))))
+    (λ e. e ∙ sym (ne-eqb b a (λ q. eqb-false a b e (sym q))))
 
 module _ {X : Type 0} where
   -- `new` below k, `old` from k on.
@@ -37,6 +44,10 @@ module _ {X : Type 0} where
         (λ e. let q : k ≡ v = eqb-true k v e in rw (e, q) (sym (upto-all (suc v) v (omega arith))))
         (λ e. rw (e, other k v (eqb-false k v e)))
 
+    -- The same, where v is looked for.
+    pub upto-find : (k v : ℕ) → cond (eqb v k) (new k) (upto k new old v) ≡ upto (suc k) new old v
+    upto-find k v = rw (eqb-sym v k) (upto-suc k v)
+
 pub fill-none : (cell new : ℕ → ℤ) (v : ℕ) → v < 0 → cell v ≡ new v
 fill-none cell new v l = absurd (not-suc-le-zero l)
 
@@ -47,3 +58,43 @@ fill {new = new} k e h v l =
     by-test (eqb k v)
     (λ q. rw q (e ∙ ap new (eqb-true k v q)))
     (λ q. rw q (h v (omega (arith, eqb-false k v q))))
+
+-- ---- a region of n places that held `old`, filled anew
+
+-- The places below k are done.
+pub record Refilled (n k : ℕ) (new old cell : ℕ → ℤ) : Type 0 where
+  pub done : (v : ℕ) → v < k → cell v ≡ new v
+  pub left : (v : ℕ) → v < n → k ≤ v → cell v ≡ old v
+
+module _ {n : ℕ} {new old cell : ℕ → ℤ} where
+  pub refill-none : ((v : ℕ) → v < n → cell v ≡ old v) → Refilled n 0 new old cell
+  refill-none h = record { done = fill-none cell new; left = λ v l _. h v l }
+
+  pub refill : (k : ℕ) {z : ℤ} → k < n → (cell k ≡ old k → z ≡ new k) → Refilled n k new old cell
+      → Refilled n (suc k) new old (λ v. cond (eqb k v) z (cell v))
+  refill k l f h =
+      record {
+        done = fill k (f (h .left k l (omega arith))) (h .done);
+        left = λ v lv g. rw (ne-eqb k v (omega arith)) (h .left v lv (omega arith));
+      }
+
+-- ---- a table of rows of n places, filled row by row: place v of row i is i * n + v
+
+-- The rows below i are done, and of row i the places below v.
+pub record Rows (n i v : ℕ) (new : ℕ → ℕ → ℤ) (cell : ℕ → ℤ) : Type 0 where
+  pub done : (p : ℕ) → p < i * n + v → cell p ≡ new (p / n) (p % n)
+
+pub rows-none : {n : ℕ} {new : ℕ → ℕ → ℤ} {cell : ℕ → ℤ} → Rows n 0 0 new cell
+rows-none = record { done = λ p l. absurd (omega arith) }
+
+module _ {n i : ℕ} {new : ℕ → ℕ → ℤ} {cell : ℕ → ℤ} where
+  pub rows-place : (v : ℕ) {z : ℤ} → v < n → z ≡ new i v → Rows n i v new cell
+      → Rows n i (suc v) new (λ p. cond (eqb (i * n + v) p) z (cell p))
+  rows-place v l e h =
+      record { done = λ p k. fill (i * n + v) (rw (digits-div i l, digits-mod i l) e) (h .done) p (omega arith) }
+
+  pub rows-next : Rows n i n new cell → Rows n (suc i) 0 new cell
+  rows-next h = record { done = λ p k. h .done p (omega arith) }
+
+  pub rows-at : Rows n i 0 new cell → (j v : ℕ) → j < i → v < n → cell (j * n + v) ≡ new j v
+  rows-at h j v l k = h .done (j * n + v) (omega (arith, digits-lt l k)) ∙ rw (digits-div j k, digits-mod j k)

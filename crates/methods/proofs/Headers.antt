@@ -1,24 +1,29 @@
 -- The words of a header's plan, carried out on cells that intake has laid, have the outcome of their method.
--- Rests on both methods and on the words of instructions.
+-- Rests on the methods and on the words of instructions.
 use mathlib.Core.Path.{_≡_}
 use mathlib.Core.List.{List}
 use Prim.Native.Nat.{ℕ}
 use lib.IntN.{ℤ, natAbs}
 use lib.ListN.{drop}
+use Rattle.machine.specs.Effect.{cellAt}
 use Rattle.machine.specs.Log.{cellsAfter}
 use Rattle.plans.specs.declared.Header.{Header}
 use Rattle.plans.specs.Limits.{far}
 use Rattle.plans.specs.Plan.{Accepted, instructionsOf, planOf}
-use Rattle.plans.proofs.Headers.{edges-small, instructions-one, instructions-two}
+use Rattle.plans.proofs.Headers.{edges-small, instructions-one, instructions-two, instructions-three}
 use Rattle.plans.proofs.Addresses.{fits-plan}
 use Rattle.graph.specs.Walk.{Edge}
+use Rattle.graph.specs.Jacobi.{Sorted, Synchronous}
 use Rattle.methods.specs.Bank.{performAll}
+use Rattle.methods.specs.Edges.{Places, Laid, Solved}
 use Rattle.methods.specs.Method1 as Method1
 use Rattle.methods.specs.Method2 as Method2
+use Rattle.methods.specs.Method3 as Method3
 use Rattle.methods.proofs.Words.{after-words}
 use Rattle.methods.proofs.Method1.{method1}
 use Rattle.methods.proofs.Method2.{method2}
-use Rattle.methods.proofs.Rooms.{Wide, room1, room2}
+use Rattle.methods.proofs.Method3.{method3, by-passes}
+use Rattle.methods.proofs.Rooms.{Wide, room1, room2, room3}
 
 module _ (h : Header) (accepted : Accepted h) (cells : List ℤ) where
   pub after-plan : cellsAfter (drop 1 (planOf h)) cells ≡ performAll (instructionsOf h) cells
@@ -26,8 +31,18 @@ module _ (h : Header) (accepted : Accepted h) (cells : List ℤ) where
   after-plan = after-words (instructionsOf h) (fits-plan h accepted) cells
 
   module _ (limit : ℕ) (wide : Wide (natAbs far) limit) where
-    pub header1 : (edge : ℕ → Edge) → h .method ≡ 1 → Method1.Laid limit edge (h .vertices) (h .edges) (h .source) cells
-        → Method1.Solved (natAbs far) edge (h .vertices) (h .edges) (h .source) cells (cellsAfter (drop 1 (planOf h)) cells)
+    -- For a method over private edges: what intake lays, and what the plan leaves.
+    module _ (at : Places) (edge : ℕ → Edge) where
+      abbrev LaidAt : Type 0
+      LaidAt = Laid at limit edge (h .vertices) (h .edges) (h .source) cells
+
+      abbrev SolvedAt : Type 0
+      SolvedAt =
+          Solved at (natAbs far) (instructionsOf h) edge (h .vertices) (h .edges) (h .source) cells
+          (cellsAfter (drop 1 (planOf h)) cells)
+
+    pub header1 : (edge : ℕ → Edge) → h .method ≡ 1 → LaidAt (Method1.places (h .vertices) (h .edges)) edge
+        → SolvedAt (Method1.places (h .vertices) (h .edges)) edge
     header1 edge e laid =
         rw (after-plan, instructions-one h e)
         (method1 (natAbs far) limit edge (h .vertices) (h .edges) (h .source) cells
@@ -39,3 +54,16 @@ module _ (h : Header) (accepted : Accepted h) (cells : List ℤ) where
         rw (after-plan, instructions-two h e)
         (method2 (natAbs far) limit table (h .vertices) (h .source) cells
         (room2 (natAbs far) limit wide (h .vertices) (accepted .vertices-few)) laid)
+
+    pub header3 : (edge : ℕ → Edge) → h .method ≡ 3 → Sorted edge (h .edges)
+        → LaidAt (Method3.places (h .vertices) (h .edges)) edge
+        → SolvedAt (Method3.places (h .vertices) (h .edges)) edge
+        × Synchronous edge (h .edges) far (h .vertices) (h .source)
+        (λ v. cellAt (cellsAfter (drop 1 (planOf h)) cells) (Method3.places (h .vertices) (h .edges) .dist v))
+        (λ v. cellAt (cellsAfter (drop 1 (planOf h)) cells) (Method3.places (h .vertices) (h .edges) .parent v))
+    header3 edge e sorted laid =
+        let room = room3 (natAbs far) limit wide (h .vertices) (accepted .vertices-few) in
+        rw (after-plan, instructions-three h e) (
+          method3 (natAbs far) limit edge (h .vertices) (h .edges) (h .source) cells room laid sorted,
+          by-passes (natAbs far) limit edge (h .vertices) (h .edges) (h .source) cells room laid sorted,
+        )

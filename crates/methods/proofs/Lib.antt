@@ -6,10 +6,15 @@ pub mod Names
 pub mod Bits
 pub mod Filled
 pub mod Words
+pub mod OverEdges
+pub mod Solved
 pub mod Edges
 pub mod Passes
 pub mod Method1
 pub mod Turns
 pub mod Method2
+pub mod Sweeps
+pub mod Jacobi
+pub mod Method3
 pub mod Rooms
 pub mod Headers

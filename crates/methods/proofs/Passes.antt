@@ -14,11 +14,13 @@ use Rattle.graph.specs.Walk.{Edge}
 use Rattle.graph.specs.BellmanFord as BellmanFord
 use Rattle.graph.specs.BellmanFord.{State, start, passes, bellmanFord, slack}
 use Rattle.graph.proofs.BellmanFord.{within}
-use Rattle.methods.specs.Method1.{Room, Limited}
+use Rattle.methods.specs.Edges.{Limited}
+use Rattle.methods.specs.Method1.{Room}
 use Rattle.methods.proofs.Steps.{Runs, loop}
 use Rattle.methods.proofs.Names.{pair, Store}
 use Rattle.methods.proofs.Filled.{fill-none, fill}
-use Rattle.methods.proofs.Edges.{Near, steps, Given, Holds, relax-runs, check-runs}
+use Rattle.methods.proofs.OverEdges.{Near, steps}
+use Rattle.methods.proofs.Edges.{Given, Holds, relax-runs, check-runs}
 
 module _ (far limit : ℕ) (edge : ℕ → Edge) (n m source : ℕ) (room : Room far limit n m) (limited : Limited limit edge n m) where
   abbrev first : State

@@ -1,4 +1,4 @@
--- Room for both methods, within 32 vertices and 128 edges: two inequalities, met by today's numbers and by those of ask 7.
+-- Room for every method, within 32 vertices and 128 edges: two inequalities, met by today's numbers and by those of ask 7.
 -- Rests on the definitions alone.
 use Prim.Native.Nat.{ℕ, suc, _+_, _-_, _*_, _^_, _<_, _≤_}
 use native.Mathlib.Nat.{mul-le-mul, mul-le-mul-right}
@@ -8,6 +8,7 @@ use lib.IntN.{natAbs}
 use Rattle.plans.specs.Limits as Limits
 use Rattle.methods.specs.Method1 as Method1
 use Rattle.methods.specs.Method2 as Method2
+use Rattle.methods.specs.Method3 as Method3
 
 -- 31 passes over 128 edges and one checked edge are fewer than 4096 edges; method 2 adds far to far.
 pub record Wide (far limit : ℕ) : Type 0 where
@@ -21,10 +22,14 @@ module _ (far limit : ℕ) (wide : Wide far limit) (n : ℕ) (few : n ≤ 32) wh
       let most : suc ((n - 1) * m) * limit ≤ 4096 * limit = mul-le-mul-right limit (omega arith) in
       record { deep = omega (arith, wide .deep); fits = omega (arith, wide .deep, wide .fits) }
 
+  few-edges : n * limit ≤ 4096 * limit
+  few-edges = mul-le-mul-right limit (omega arith)
+
   pub room2 : Method2.Room far limit n
-  room2 =
-      let most : n * limit ≤ 4096 * limit = mul-le-mul-right limit (omega arith) in
-      record { deep = omega (arith, wide .deep); fits = wide .fits }
+  room2 = record { deep = omega (arith, wide .deep, few-edges); fits = wide .fits }
+
+  pub room3 : Method3.Room far limit n
+  room3 = record { deep = omega (arith, wide .deep, few-edges); fits = omega (arith, wide .deep, wide .fits) }
 
 -- Document 01.
 pub today : Wide (natAbs Limits.far) 1000000

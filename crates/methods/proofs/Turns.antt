@@ -17,8 +17,8 @@ use Rattle.graph.proofs.Dijkstra.{Picked, nobody, picked, pick, sum-bound}
 use Rattle.methods.proofs.Steps.{Claim, Kind, Runs, loop}
 use Rattle.methods.proofs.Stores.{numbers}
 use Rattle.methods.proofs.Names.{Name, same, pair, Store}
-use Rattle.methods.proofs.Bits.{eqb-sym, both-bit, pick-bit, cond-ap, cond-zero, sum-exact}
-use Rattle.methods.proofs.Filled.{upto, upto-zero, upto-here, upto-all, upto-suc, fill-none, fill}
+use Rattle.methods.proofs.Bits.{both-bit, pick-bit, cond-ap, cond-zero, sum-exact}
+use Rattle.methods.proofs.Filled.{upto, upto-zero, upto-here, upto-all, upto-suc, upto-find, fill-none, fill}
 
 -- The sums that the method forms.
 abbrev pub Sum : ℤ → ℤ → Type 0
@@ -45,7 +45,7 @@ module _ (far : ℕ) (table : ℕ → ℕ → ℕ) where
   row-zero (negsuc i) j = refl
 
   row-suc : (k : ℕ) (w : ℤ) (j : ℕ) → cond (isVertex w k) (table k j) (rowUpto k w j) ≡ rowUpto (suc k) w j
-  row-suc k (pos u) j = rw (eqb-sym u k) (upto-suc (λ v. table v j) (λ v. far) k u)
+  row-suc k (pos u) j = upto-find (λ v. table v j) (λ v. far) k u
   row-suc k (negsuc i) j = refl
 
   row-all : (st : State) (n : ℕ) {b : ℕ} {w : ℤ} → Picked far st n b w → (j : ℕ) → rowUpto n w j ≡ rowOf far table w j

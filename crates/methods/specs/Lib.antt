@@ -1,3 +1,5 @@
 pub mod Bank
+pub mod Edges
 pub mod Method1
 pub mod Method2
+pub mod Method3

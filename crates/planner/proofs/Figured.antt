@@ -1,38 +1,50 @@
 -- What follows from a header, and how large the parts of a plan's length get. Rests on the laws of plans.
 use mathlib.Core.Path.{_≡_, refl}
-use mathlib.Core.Logic.{⊎-elim}
 use mathlib.Core.Option.{Option, none, some}
 use Prim.Native.Nat.{ℕ, _+_, _-_, _*_, _≤_}
+use native.Mathlib.Nat.{mul-le-mul}
+use native.Mathlib.Omega.{arith}
 use Rattle.plans.specs.declared.Header.{Header}
 use Rattle.plans.specs.Plan.{Accepted, verdictCell}
-use Rattle.plans.proofs.Bounds.{square-le, cube-le, figure-le}
+use Rattle.plans.proofs.Bounds.{square-le, cube-le, edges-le}
 use Rattle.plans.proofs.EachKind.{each-kind}
-use Rattle.plans.proofs.Headers.{method-is, edges-small}
+use Rattle.plans.proofs.Headers.{by-method, edges-small}
 use Rattle.planner.specs.declared.Figures.{Figures}
 use Rattle.planner.specs.Figures.{cellIn, inCode, figuresOf, Figured}
 
--- There are two methods.
-pub method-two : (h : Header) → Accepted h → (h .method ≡ 1 → ⊥) → h .method ≡ 2
-method-two h a n = ⊎-elim (λ e. absurd (n e)) (λ e. e) (method-is (h .method) (a .known))
+-- The last method.
+pub method-three : (h : Header) → Accepted h → (h .method ≡ 1 → ⊥) → (h .method ≡ 2 → ⊥) → h .method ≡ 3
+method-three =
+    by-method (λ h. (h .method ≡ 1 → ⊥) → (h .method ≡ 2 → ⊥) → h .method ≡ 3)
+    (λ n m source a one two. absurd (one refl))
+    (λ n source a one two. absurd (two refl))
+    (λ n m source a one two. refl)
 
 -- ---- the length's parts
 
-pub record Sizes (h : Header) : Type 0 where
-  pub few : h .vertices ≤ 32
-  pub edges-few : h .edges ≤ 128
-  pub square : h .vertices * h .vertices ≤ 1024
-  pub cube : h .vertices * h .vertices * h .vertices ≤ 32768
-  pub words : h .edges * (8 * (h .vertices * h .vertices) + 3 * h .vertices - 1) ≤ 1060736
+-- Those of the lengths and of the cells, for n vertices and m edges.
+pub record Sizes (n m : ℕ) : Type 0 where
+  pub few : n ≤ 32
+  pub edges-few : m ≤ 128
+  pub square : n * n ≤ 1024
+  pub cube : n * n * n ≤ 32768
+  pub entries : n * m ≤ 4096
+  pub words1 : m * (8 * (n * n) + 3 * n - 1) ≤ 1060736
+  pub words3 : m * (3 * (n * n) + 10 * n - 1) ≤ 434048
 
-pub sizes : (h : Header) → Accepted h → Sizes h
+pub sizes : (h : Header) → Accepted h → Sizes (h .vertices) (h .edges)
 sizes h a =
     let few = a .vertices-few in
+    let edges-few = edges-small h a in
+    let square = square-le (h .vertices) few in
     record {
       few = few;
-      edges-few = edges-small h a;
-      square = square-le (h .vertices) few;
+      edges-few = edges-few;
+      square = square;
       cube = cube-le (h .vertices) few;
-      words = figure-le (h .vertices) (h .edges) few (edges-small h a);
+      entries = mul-le-mul {n₁ = h .vertices} {m₁ = h .edges} {n₂ = 32} {m₂ = 128} few edges-few;
+      words1 = edges-le (h .edges) edges-few _ 8287 (omega arith);
+      words3 = edges-le (h .edges) edges-few _ 3391 (omega arith);
     }
 
 -- ---- the figures, one by one

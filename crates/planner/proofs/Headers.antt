@@ -18,18 +18,20 @@ use Rattle.plans.specs.Plan.{Accepted}
 use Rattle.planner.specs.Refusal.{headerTests, headerRefusal}
 
 -- No other method is known.
-pub no-other : (method : ℕ) → (method ≡ 1 → ⊥) → (method ≡ 2 → ⊥) → false ≡ knownMethod method
-no-other zero a b = refl
-no-other (suc zero) a b = absurd (a refl)
-no-other (suc (suc zero)) a b = absurd (b refl)
-no-other (suc (suc (suc _))) a b = refl
+pub no-other : (method : ℕ) → (method ≡ 1 → ⊥) → (method ≡ 2 → ⊥) → (method ≡ 3 → ⊥) → false ≡ knownMethod method
+no-other zero a b c = refl
+no-other (suc zero) a b c = absurd (a refl)
+no-other (suc (suc zero)) a b c = absurd (b refl)
+no-other (suc (suc (suc zero))) a b c = absurd (c refl)
+no-other (suc (suc (suc (suc _)))) a b c = refl
 
--- Only method 1 has edges.
-pub no-edges : (method : ℕ) → (method ≡ 1 → ⊥) → 0 ≡ mostEdges method
-no-edges zero h = refl
-no-edges (suc zero) h = absurd (h refl)
-no-edges (suc (suc zero)) h = refl
-no-edges (suc (suc (suc k))) h = refl
+-- Only methods 1 and 3 have edges.
+pub no-edges : (method : ℕ) → (method ≡ 1 → ⊥) → (method ≡ 3 → ⊥) → 0 ≡ mostEdges method
+no-edges zero a c = refl
+no-edges (suc zero) a c = absurd (a refl)
+no-edges (suc (suc zero)) a c = refl
+no-edges (suc (suc (suc zero))) a c = absurd (c refl)
+no-edges (suc (suc (suc (suc _)))) a c = refl
 
 -- k is what `known` answers of the method.
 module _ (h : Header) (k : Bool) (is : k ≡ knownMethod (h .method)) where

@@ -14,16 +14,17 @@ use Rattle.plans.specs.Regions.{address}
 use Rattle.plans.specs.Outline.{Outline, start, instructions}
 use Rattle.plans.specs.Method1 as Method1
 use Rattle.plans.specs.Method2 as Method2
+use Rattle.plans.specs.Method3 as Method3
 use Rattle.plans.specs.Plan.{Accepted, instructionsOf, planOf, lengthOf}
 use Rattle.plans.proofs.Addresses.{fits-plan}
 use Rattle.plans.proofs.Blocks.{all-map}
-use Rattle.plans.proofs.Bounds.{square-le}
 use Rattle.plans.proofs.Figures.{length-plan}
-use Rattle.plans.proofs.Headers.{edges-small, instructions-one, instructions-two}
+use Rattle.plans.proofs.Headers.{instructions-one, instructions-two, instructions-three}
 use Rattle.rows.specs.Rows.{envOf}
 use Rattle.tables.specs.Writing.{RoomAt, Wrote, linesWords, Writable}
 use Rattle.tables.proofs.Tabled as Tabled
 use Rattle.tables.proofs.Tabled.{SameRows}
+use Rattle.planner.proofs.Figured.{sizes}
 
 -- ---- any method
 
@@ -52,21 +53,17 @@ module _ {h : Header} {m : ℕ} {starts : List ℕ} {o : Outline} (p : Outlined 
   unfolding planOf
   was-written w = rw (p .is) (Tabled.was-written (h .vertices) m (h .source) starts lines o rows w)
 
--- ---- methods 1 and 2
+-- ---- each method
 
 module _ (h : Header) (a : Accepted h) where
   pub outlined1 : h .method ≡ 1 → Outlined h (h .edges) (Method1.starts (h .vertices) (h .edges)) Method1.outline
   unfolding Method1.plan
-  outlined1 e =
-      record {
-        near = omega (arith, a .vertices-few, edges-small h a);
-        is = instructions-one h e;
-      }
+  outlined1 e = let s = sizes h a in record { near = omega arith; is = instructions-one h e }
 
   pub outlined2 : h .method ≡ 2 → Outlined h 0 (Method2.starts (h .vertices)) Method2.outline
   unfolding Method2.plan
-  outlined2 e =
-      record {
-        near = omega (arith, a .vertices-few, square-le (h .vertices) (a .vertices-few));
-        is = instructions-two h e;
-      }
+  outlined2 e = let s = sizes h a in record { near = omega arith; is = instructions-two h e }
+
+  pub outlined3 : h .method ≡ 3 → Outlined h (h .edges) (Method3.starts (h .vertices) (h .edges)) Method3.outline
+  unfolding Method3.plan
+  outlined3 e = let s = sizes h a in record { near = omega arith; is = instructions-three h e }

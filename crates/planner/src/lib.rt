@@ -2,6 +2,7 @@
 // Rests on answers, plans and tables.
 mod method1;
 mod method2;
+mod method3;
 
 use answers::Checked;
 use answers::Refusal;
@@ -61,6 +62,7 @@ fn known(method: u64) -> bool
     match method {
         1 => true,
         2 => true,
+        3 => true,
         _ => false,
     }
 }
@@ -68,7 +70,11 @@ fn known(method: u64) -> bool
 fn most_edges(method: u64) -> u64
     ensures { λ r. ⌜ r ≡ mostEdges method ⌝ }
 {
-    if method == 1 { plans::MOST_EDGES } else { 0 }
+    match method {
+        1 => plans::MOST_EDGES,
+        3 => plans::MOST_EDGES,
+        _ => 0,
+    }
 }
 
 // Refusals 1 to 4.
@@ -98,10 +104,12 @@ pub fn figures_of(h: Header) -> Figures
     requires { ⌜ Accepted h ⌝ }
     ensures { λ r. ⌜ Figured h r ⌝ }
 {
-    if h.method == 1 {
-        return method1::figures(h);
+    let method = h.method;
+    match method {
+        1 => method1::figures(h),
+        2 => method2::figures(h),
+        _ => method3::figures(h),
     }
-    method2::figures(h)
 }
 
 // The operation words of the header's plan, written after its header word; the plan's length.
@@ -109,10 +117,12 @@ fn write_words(h: Header, plan: &mut [u64]) -> usize
     requires { ⌜ Accepted h × (lengthOf h ≤ length (now plan)) ⌝ }
     ensures { λ r. ⌜ Wrote (drop 1 (planOf h)) (now (plan .entry)) (now (plan .exit)) 1 r ⌝ }
 {
-    if h.method == 1 {
-        return method1::write(h, plan);
+    let method = h.method;
+    match method {
+        1 => method1::write(h, plan),
+        2 => method2::write(h, plan),
+        _ => method3::write(h, plan),
     }
-    method2::write(h, plan)
 }
 
 // The plan written to the start of a buffer; its length.

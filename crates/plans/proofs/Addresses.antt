@@ -21,10 +21,11 @@ use Rattle.plans.specs.Outline as Outline
 use Rattle.plans.specs.Outline.{fixed, at, after, entry, small, minus-one, unreached, counted, from-source, Line, set, copy, add, less, equal, both, moveif, opens, Outline, counter, start, cellOf, numberOf, instructionOf, instructions}
 use Rattle.plans.specs.Method1 as Method1
 use Rattle.plans.specs.Method2 as Method2
+use Rattle.plans.specs.Method3 as Method3
 use Rattle.plans.specs.Plan.{Accepted, instructionsOf, planOf, cellsOf, Kind, resultsOf}
 use Rattle.plans.proofs.Blocks.{all-both, all-map}
 use Rattle.plans.proofs.Outlines.{Under, once, under, Each, all-lines}
-use Rattle.plans.proofs.Bounds.{square-le}
+use Rattle.plans.proofs.Bounds.{square-le, edges-le}
 use Rattle.plans.proofs.EachKind.{each-kind}
 use Rattle.plans.proofs.Headers.{by-method}
 
@@ -101,7 +102,7 @@ Below count = Keeps (λ a. a < count) (λ z. mag z < 2 ^ 39)
 
 -- A call of `search` takes so many steps only: one for each of the outline's first parts.
 pub below-plan : (h : Header) → Accepted h → (count : ℕ) → cellsOf h ≤ count → All (Below count) (instructionsOf h)
-unfolding instructionsOf cellsOf Method1.plan Method2.plan
+unfolding instructionsOf cellsOf Method1.plan Method2.plan Method3.plan
 below-plan =
     by-method (λ h. (count : ℕ) → cellsOf h ≤ count → All (Below count) (instructionsOf h))
     (λ n m source a count l.
@@ -109,12 +110,17 @@ below-plan =
     (search arith, (search arith, (search arith, (search arith, search arith)))))
     (λ n source a count l.
     keeps _ _ (address (Method2.starts n)) far n 0 source Method2.outline (search arith, search arith))
+    (λ n m source a count l.
+    keeps _ _ (address (Method3.starts n m)) far n m source Method3.outline
+    (search arith, (search arith, (search arith, (search arith, search arith)))))
 
-pub cells-few : (h : Header) → Accepted h → cellsOf h ≤ 1190
+-- No plan needs more than the largest one of method 3.
+pub cells-few : (h : Header) → Accepted h → cellsOf h ≤ 8874
 unfolding cellsOf
 cells-few =
-    by-method (λ h. cellsOf h ≤ 1190) (λ n m source a. omega arith)
+    by-method (λ h. cellsOf h ≤ 8874) (λ n m source a. omega arith)
     (λ n source a. omega (arith, square-le n (omega arith)))
+    (λ n m source a. omega (arith, edges-le m (a .edges-few) n 32 (a .vertices-few), a .vertices-few, a .edges-few))
 
 pub results-inside : (h : Header) → Accepted h → (k : Kind) → resultsOf h k .first + resultsOf h k .count ≤ cellsOf h
 unfolding resultsOf cellsOf
@@ -122,6 +128,7 @@ results-inside =
     by-method (λ h. (k : Kind) → resultsOf h k .first + resultsOf h k .count ≤ cellsOf h)
     (λ n m source a. each-kind _ (omega arith) (omega arith))
     (λ n source a. each-kind _ (omega arith) (omega arith))
+    (λ n m source a. each-kind _ (omega arith) (omega arith))
 
 pub fits-plan : (h : Header) → Accepted h → All Fits (instructionsOf h)
 fits-plan h a = below-plan h a (2 ^ 20) (omega (arith, cells-few h a))

@@ -1,66 +1,52 @@
 -- The table of specs/Facts, by computing the definitions. Rests on the definitions alone else.
 use mathlib.Core.Path.{refl}
+use Prim.Native.Nat.{_<_, _≤_}
 use native.Mathlib.Omega.{arith}
+use lib.Dec.{T}
 use Rattle.fields.specs.Fields.{bitsOf}
 use Rattle.machine.specs.Word.{packed, packedSet}
 use Rattle.plans.specs.Blocks.{flat}
 use Rattle.plans.specs.Outline.{instructions}
+use Rattle.plans.specs.declared.Header.{Header}
+use Rattle.plans.specs.Limits.{knownMethod, mostEdges}
 use Rattle.plans.specs.Method1 as Method1
 use Rattle.plans.specs.Method2 as Method2
+use Rattle.plans.specs.Method3 as Method3
 use Rattle.plans.specs.Plan.{headerOf, Accepted, instructionsOf, planOf, wordCountOf, cellsOf, resultsOf, verdictCell}
 use Rattle.plans.specs.Facts.{Facts}
 
+within : (h : Header) → T (knownMethod (h .method)) → 0 < h .vertices → h .vertices ≤ 32
+    → h .edges ≤ mostEdges (h .method) → h .source < h .vertices → Accepted h
+within h known some few edges source =
+    record { known = known; vertices-some = some; vertices-few = few; edges-few = edges; source-there = source }
+
 pub facts : Facts
-unfolding bitsOf packed packedSet flat instructions Method1.plan Method2.plan instructionsOf planOf wordCountOf cellsOf resultsOf verdictCell
+unfolding bitsOf packed packedSet flat instructions Method1.plan Method2.plan Method3.plan instructionsOf planOf wordCountOf cellsOf resultsOf verdictCell
 facts =
     record {
       far-is = refl;
       header-fields = (refl, refl, refl);
-      least1 =
-          record {
-            known = tt;
-            vertices-some = omega arith;
-            vertices-few = omega arith;
-            edges-few = omega arith;
-            source-there = omega arith;
-          };
-      most1 =
-          record {
-            known = tt;
-            vertices-some = omega arith;
-            vertices-few = omega arith;
-            edges-few = omega arith;
-            source-there = omega arith;
-          };
-      least2 =
-          record {
-            known = tt;
-            vertices-some = omega arith;
-            vertices-few = omega arith;
-            edges-few = omega arith;
-            source-there = omega arith;
-          };
-      most2 =
-          record {
-            known = tt;
-            vertices-some = omega arith;
-            vertices-few = omega arith;
-            edges-few = omega arith;
-            source-there = omega arith;
-          };
+      least1 = within _ tt (omega arith) (omega arith) (omega arith) (omega arith);
+      most1 = within _ tt (omega arith) (omega arith) (omega arith) (omega arith);
+      least2 = within _ tt (omega arith) (omega arith) (omega arith) (omega arith);
+      most2 = within _ tt (omega arith) (omega arith) (omega arith) (omega arith);
+      least3 = within _ tt (omega arith) (omega arith) (omega arith) (omega arith);
+      most3 = within _ tt (omega arith) (omega arith) (omega arith) (omega arith);
       method0 = λ a. a .known;
-      method3 = λ a. a .known;
+      method4 = λ a. a .known;
       vertices0 = λ (a : Accepted (headerOf 0x1000000000000000)). omega arith;
       vertices33 = λ (a : Accepted (headerOf 0x1000210000000000)). omega arith;
       edges129 = λ (a : Accepted (headerOf 0x1000010008100000)). omega arith;
+      sorted129 = λ (a : Accepted (headerOf 0x3000010008100000)). omega arith;
       edges1 = λ (a : Accepted (headerOf 0x2000010000100000)). omega arith;
       source-past1 = λ (a : Accepted (headerOf 0x1000200008000020)). omega arith;
       source-past2 = λ (a : Accepted (headerOf 0x2000010000000001)). omega arith;
       weights = (refl, refl, refl);
-      cells = (refl, refl, refl, refl);
-      words = (refl, refl);
-      results = (refl, refl, refl, refl, refl, refl, refl, refl);
-      verdict = (refl, refl, refl);
+      cells = (refl, refl, refl, refl, refl, refl);
+      words = (refl, refl, refl);
+      results = (refl, refl, refl, refl, refl, refl, refl, refl, refl, refl, refl, refl);
+      verdict = (refl, refl, refl, refl, refl);
       plan1 = refl;
       plan2 = refl;
+      plan3 = refl;
     }

@@ -1,7 +1,8 @@
--- The figures of document 01: a plan's length and its rounds, for every header and for the largest ones.
+-- The figures of documents 01 and 02: a plan's length and its rounds, for every header and for the largest ones; and where method 3's regions begin.
 -- Rests on the plans' weights and on the machine's laws of words.
 use mathlib.Core.Path.{_≡_, refl, ap, _∙_}
-use Prim.Native.Nat.{ℕ, _+_, _-_, _≤_}
+use mathlib.Core.List.{[], _∷_}
+use Prim.Native.Nat.{ℕ, _+_, _-_, _*_, _<_, _≤_}
 use native.Mathlib.Nat.{mul-sub}
 use native.Mathlib.Omega.{arith}
 use lib.ListN.{length, getD, drop}
@@ -11,10 +12,12 @@ use Rattle.machine.specs.Log.{rounds, roundsOf, sumOf}
 use Rattle.machine.proofs.Encoded.{rounds-encode}
 use Rattle.plans.specs.declared.Header.{Header}
 use Rattle.plans.specs.Limits.{far}
+use Rattle.plans.specs.Regions.{address}
+use Rattle.plans.specs.Method3 as Method3
 use Rattle.plans.specs.Plan.{Accepted, instructionsOf, planOf, lengthOf, roundsOfPlan}
 use Rattle.plans.proofs.Blocks.{sum-ones, sum-map}
-use Rattle.plans.proofs.Weights.{plan1-weight, plan2-weight}
-use Rattle.plans.proofs.Bounds.{square-le, cube-le, figure-le}
+use Rattle.plans.proofs.Weights.{plan1-weight, plan2-weight, plan3-weight}
+use Rattle.plans.proofs.Bounds.{square-le, cube-le, edges-le}
 use Rattle.plans.proofs.Headers.{header, by-method, plan-length}
 use Rattle.plans.proofs.Addresses.{fits-plan}
 
@@ -36,6 +39,10 @@ figures =
       ap (λ k. k + 1) (plan2-weight _ far n (λ op. 1) source) ∙ omega arith,
       plan2-weight _ far n (λ op. getD rounds op 0) source ∙ omega arith,
     ))
+    (λ n m source a. (
+      simp mul-sub (omega (arith, simp mul-sub at (plan3-weight (address (Method3.starts n m)) far n (λ op. 1) m source (a .vertices-some)))),
+      omega (arith, simp mul-sub at (plan3-weight (address (Method3.starts n m)) far n (λ op. getD rounds op 0) m source (a .vertices-some))),
+    ))
 
 pub length-plan : (h : Header) → Accepted h → length (planOf h) ≡ lengthOf h
 length-plan h a = omega (arith, plan-length h, sum-ones (instructionsOf h), figures h a .0)
@@ -49,8 +56,13 @@ pub length-most : (h : Header) → Accepted h → lengthOf h ≤ 1060836
 unfolding lengthOf
 length-most =
     by-method (λ h. lengthOf h ≤ 1060836)
-    (λ n m source a. omega (arith, figure-le n m (omega arith) (omega arith), a .vertices-few))
+    (λ n m source a.
+    let square = square-le n (a .vertices-few) in
+    omega (arith, edges-le m (a .edges-few) (8 * (n * n) + 3 * n - 1) 8287 (omega (arith, a .vertices-few)), a .vertices-few))
     (λ n source a. omega (arith, square-le n (omega arith), cube-le n (omega arith), a .vertices-few))
+    (λ n m source a.
+    let square = square-le n (a .vertices-few) in
+    omega (arith, edges-le m (a .edges-few) (3 * (n * n) + 10 * n - 1) 3391 (omega (arith, a .vertices-few)), a .vertices-few))
 
 -- ---- the largest plans
 
@@ -61,3 +73,39 @@ largest1 s = (refl, refl)
 pub largest2 : (s : ℕ) → (lengthOf (header 2 32 0 s) ≡ 44227) × (roundsOfPlan (header 2 32 0 s) ≡ 57506)
 unfolding lengthOf roundsOfPlan
 largest2 s = (refl, refl)
+
+pub largest3 : (s : ℕ) → (lengthOf (header 3 32 128 s) ≡ 437221) × (roundsOfPlan (header 3 32 128 s) ≡ 516708)
+unfolding lengthOf roundsOfPlan
+largest3 s = (refl, refl)
+
+-- Method 3's plan is shorter than method 1's from two vertices and three edges on, the largest ones among them.
+pub shorter3 : (n m s : ℕ) → lengthOf (header 3 (n + 2) (m + 3) s) < lengthOf (header 1 (n + 2) (m + 3) s)
+unfolding lengthOf
+shorter3 n m s = simp mul-sub (omega arith)
+
+-- ---- the cells of method 3, as the ask has them: from, B (and after it to), price, D, P, Y, N, Q, X, S, F, T
+
+pub starts3 : (n m : ℕ) → Method3.starts n m
+    ≡ 0
+    ∷ m
+    ∷ (2 * m + 1)
+    ∷ (3 * m + 1)
+    ∷ (3 * m + n + 1)
+    ∷ (3 * m + 2 * n + 1)
+    ∷ (3 * m + 3 * n + 1)
+    ∷ (3 * m + 4 * n + 1)
+    ∷ (3 * m + 5 * n + 1)
+    ∷ (3 * m + 5 * n + 10)
+    ∷ (4 * m + 5 * n + 10)
+    ∷ (n * m + 4 * m + 5 * n + 10)
+    ∷ []
+starts3 n m =
+    let p : 3 * m + 1 + n ≡ 3 * m + n + 1 = omega arith in
+    let y : 3 * m + 1 + 2 * n ≡ 3 * m + 2 * n + 1 = omega arith in
+    let k : 3 * m + 1 + 3 * n ≡ 3 * m + 3 * n + 1 = omega arith in
+    let q : 3 * m + 1 + 4 * n ≡ 3 * m + 4 * n + 1 = omega arith in
+    let x : 3 * m + 1 + 5 * n ≡ 3 * m + 5 * n + 1 = omega arith in
+    let s : 3 * m + 1 + 5 * n + 9 ≡ 3 * m + 5 * n + 10 = omega arith in
+    let f : 3 * m + 1 + 5 * n + 9 + m ≡ 4 * m + 5 * n + 10 = omega arith in
+    let t : 3 * m + 1 + 5 * n + 9 + m + n * m ≡ n * m + 4 * m + 5 * n + 10 = omega arith in
+    λ i. 0 ∷ m ∷ (2 * m + 1) ∷ (3 * m + 1) ∷ p i ∷ y i ∷ k i ∷ q i ∷ x i ∷ s i ∷ f i ∷ t i ∷ []

@@ -12,6 +12,7 @@ use Rattle.plans.specs.declared.Counters.{Counters}
 use Rattle.plans.specs.Outline.{inner, Line, set, copy, add, less, equal, both, moveif, opens, Outline, end, line, run, each, again, counted-to, start, timesOf, instructionOf, instructions}
 use Rattle.plans.specs.Method1 as Method1
 use Rattle.plans.specs.Method2 as Method2
+use Rattle.plans.specs.Method3 as Method3
 use Rattle.plans.proofs.Blocks.{sum-blocks}
 
 abbrev pub weigh : {A : Type 0} (w : ℕ → ℕ) → List (Instruction A) → ℕ
@@ -82,3 +83,16 @@ pub plan2-weight : {A : Type 0} (name : (region place : ℕ) → A) (far : ℤ) 
 unfolding Method2.plan sumOf
 plan2-weight name far n w source =
     outline-weight name far n 0 source w Method2.outline start ∙ omega arith
+
+pub plan3-weight : {A : Type 0} (name : (region place : ℕ) → A) (far : ℤ) (n : ℕ) (w : ℕ → ℕ) (m source : ℕ) → 0 < n
+    → weigh w (Method3.plan name far n m source) + n * w 6
+    ≡ n * (4 * w 0)
+    + 3 * w 0
+    + n * n * (w 3 + 2 * w 6)
+    + m * (n * n * (3 * w 6) + n * (w 0 + w 1 + w 2 + 2 * w 3 + 2 * w 4 + w 5 + 2 * w 6) + w 3 - (w 0 + w 6))
+    + w 7
+unfolding Method3.plan sumOf
+plan3-weight name far (suc n) w m source some =
+    let e : suc n - 1 ≡ n = omega arith in
+    let weight = rw e at (outline-weight name far (suc n) m source w Method3.outline start) in
+    simp mul-sub (omega arith)

@@ -1,5 +1,5 @@
--- Document 01's limits and plans as facts about literal header words and numbers, in its order, so that no other limit and no other order of
--- words agrees with it. Lengths and rounds at the limits are in proofs/Figures (`largest1`, `largest2`). Rests on the definitions alone.
+-- The limits and plans of documents 01 and 02 as facts about literal header words and numbers, in their order, so that no other limit and no other
+-- order of words agrees with them. Lengths and rounds at the limits are in proofs/Figures (`largest1` to `largest3`). Rests on the definitions alone.
 use mathlib.Core.Path.{_≡_}
 use mathlib.Core.List.{List, [], _∷_, _++_}
 use mathlib.Core.Option.{none, some}
@@ -89,6 +89,67 @@ turn2 =
     ++ (0x2000100000F0000C ∷ 0x3000130001000004 ∷ 0x6000040001300010 ∷ 0x6000060001300011 ∷ [])
     ++ (0x2000100000F0000D ∷ 0x3000130001000005 ∷ 0x6000050001300010 ∷ 0x6000070001300011 ∷ [])
 
+-- ---- "Ask 3" at n = 2, m = 2, source 1. Cells: from 0, B 2, to 3, price 5, D 7, P 9, Y 11, N 13, Q 15, X 17, S 26, F 28, T 32.
+
+abbrev pub opening3 : List ℕ
+opening3 =
+    -- For each v, SET Y+v to v, SET D+v to 0 if v is the source, else FAR, SET P+v to -1, SET N+v to FAR.
+    (0x00000B0000000000 ∷ 0x0000074000000000 ∷ 0x000009FFFFFFFFFF ∷ 0x00000D4000000000 ∷ [])
+    ++ (0x00000C0000000001 ∷ 0x0000080000000000 ∷ 0x00000AFFFFFFFFFF ∷ 0x00000E4000000000 ∷ [])
+    -- SET X to FAR, SET X+8 to 0, SET B to -1.
+    ++ (0x0000114000000000 ∷ 0x0000190000000000 ∷ 0x000002FFFFFFFFFF ∷ [])
+
+abbrev pub prepare3 : List ℕ
+prepare3 =
+    -- LESS S+i (to i-1, to i), where to -1 is B; for each v EQUAL F+in+v (from i, Y+v), EQUAL T+in+v (to i, Y+v).
+    (0x30001A0000200003 ∷ 0x40001C000000000B ∷ 0x400020000030000B ∷ 0x40001D000000000C ∷ 0x400021000030000C ∷ [])
+    ++ (0x30001B0000300004 ∷ 0x40001E000010000B ∷ 0x400022000040000B ∷ 0x40001F000010000C ∷ 0x400023000040000C ∷ [])
+
+-- Of edge 0, and of edge 1, in a pass and in the check.
+abbrev pub bid0 : List ℕ
+bid0 =
+    -- COPY X+1 from X; for each v MOVEIF X+1 (F+in+v, D+v).
+    (0x1000120001100000 ∷ 0x6000120001C00007 ∷ 0x6000120001D00008 ∷ [])
+    -- ADD X+2 (X+1, price i); LESS X+4 (X+1, X); MOVEIF X+6 (S+i, X).
+    ++ (0x2000130001200005 ∷ 0x3000150001200011 ∷ 0x6000170001A00011 ∷ [])
+    -- LESS X+5 (X+2, X+6); BOTH X+5 (X+5, X+4); MOVEIF X+6 (X+5, X+2).
+    ++ (0x3000160001300017 ∷ 0x5000160001600015 ∷ 0x6000170001600013 ∷ [])
+
+abbrev pub bid1 : List ℕ
+bid1 =
+    (0x1000120001100000 ∷ 0x6000120001E00007 ∷ 0x6000120001F00008 ∷ [])
+    ++ (0x2000130001200006 ∷ 0x3000150001200011 ∷ 0x6000170001B00011 ∷ [])
+    ++ (0x3000160001300017 ∷ 0x5000160001600015 ∷ 0x6000170001600013 ∷ [])
+
+-- The rest of a pass's words of edge 0, and of edge 1.
+abbrev pub sweep0 : List ℕ
+sweep0 =
+    -- SET X+3 to i; MOVEIF X+7 (X+5, X+3).
+    (0x0000140000000000 ∷ 0x6000180001600014 ∷ [])
+    -- For each v MOVEIF N+v (T+in+v, X+6), MOVEIF Q+v (T+in+v, X+7).
+    ++ (0x60000D0002000017 ∷ 0x60000F0002000018 ∷ 0x60000E0002100017 ∷ 0x6000100002100018 ∷ [])
+
+abbrev pub sweep1 : List ℕ
+sweep1 =
+    (0x0000140000000001 ∷ 0x6000180001600014 ∷ [])
+    ++ (0x60000D0002200017 ∷ 0x60000F0002200018 ∷ 0x60000E0002300017 ∷ 0x6000100002300018 ∷ [])
+
+-- For each v LESS X+5 (N+v, D+v), MOVEIF D+v (X+5, N+v), MOVEIF P+v (X+5, Q+v).
+abbrev pub take3 : List ℕ
+take3 =
+    (0x3000160000D00007 ∷ 0x600007000160000D ∷ 0x600009000160000F ∷ [])
+    ++ (0x3000160000E00008 ∷ 0x600008000160000E ∷ 0x60000A0001600010 ∷ [])
+
+-- The rest of the check's: without SET X+3, without MOVEIF X+7 and without MOVEIF Q+v; then for each v LESS X+5 (N+v, D+v), MOVEIF X+8 (X+5, X+5).
+abbrev pub probe0 : List ℕ
+probe0 = 0x60000D0002000017 ∷ 0x60000E0002100017 ∷ []
+
+abbrev pub probe1 : List ℕ
+probe1 = 0x60000D0002200017 ∷ 0x60000E0002300017 ∷ []
+
+abbrev pub test3 : List ℕ
+test3 = 0x3000160000D00007 ∷ 0x6000190001600016 ∷ 0x3000160000E00008 ∷ 0x6000190001600016 ∷ []
+
 pub record Facts : Type 0 where
   -- "FAR is 2^38 = 274,877,906,944"
   pub far-is : far ≡ pos 274877906944
@@ -101,25 +162,33 @@ pub record Facts : Type 0 where
   pub most1 : Accepted (headerOf 0x100020000800001F)
   pub least2 : Accepted (headerOf 0x2000010000000000)
   pub most2 : Accepted (headerOf 0x200020000000001F)
-  -- And one past each: method 0 and 3, n = 0 and 33, m = 129, m = 1 in method 2, source = n.
+  pub least3 : Accepted (headerOf 0x3000010000000000)
+  pub most3 : Accepted (headerOf 0x300020000800001F)
+  -- And one past each: method 0 and 4, n = 0 and 33, m = 129, m = 1 in method 2, source = n.
   pub method0 : ¬ Accepted (headerOf 0x0000010000000000)
-  pub method3 : ¬ Accepted (headerOf 0x3000010000000000)
+  pub method4 : ¬ Accepted (headerOf 0x4000010000000000)
   pub vertices0 : ¬ Accepted (headerOf 0x1000000000000000)
   pub vertices33 : ¬ Accepted (headerOf 0x1000210000000000)
   pub edges129 : ¬ Accepted (headerOf 0x1000010008100000)
+  pub sorted129 : ¬ Accepted (headerOf 0x3000010008100000)
   pub edges1 : ¬ Accepted (headerOf 0x2000010000100000)
   pub source-past1 : ¬ Accepted (headerOf 0x1000200008000020)
   pub source-past2 : ¬ Accepted (headerOf 0x2000010000000001)
   -- "Prices: -1,000,000 to 1,000,000 in method 1, 0 to 1,000,000 or -1 in method 2."
   pub weights : (leastWeight ≡ negsuc 999999) × (mostWeight ≡ 1000000) × (noEdge ≡ negsuc 0)
-  -- "3m+3n+8 in all", "n²+5n+6 in all": at the limits, and at the plans below.
+  -- "3m+3n+8 in all", "n²+5n+6 in all", "2nm+4m+5n+10 in all": at the limits, and at the plans below.
   pub cells : (cellsOf (headerOf 0x100020000800001F) ≡ 488)
       × (cellsOf (headerOf 0x1000020000200001) ≡ 20)
       × (cellsOf (headerOf 0x200020000000001F) ≡ 1190)
       × (cellsOf (headerOf 0x2000020000000001) ≡ 20)
+      × (cellsOf (headerOf 0x300020000800001F) ≡ 8874)
+      × (cellsOf (headerOf 0x3000020000200001) ≡ 36)
   -- "m lane words", "n × n words": at the limits.
-  pub words : (wordCountOf (headerOf 0x100020000800001F) ≡ 128) × (wordCountOf (headerOf 0x200020000000001F) ≡ 1024)
-  -- "Results: n distances and n parents", "D+v and P+v": D at 3m and P at 3m+n, D at n² and P at n²+n, at the limits and at the plans below.
+  pub words : (wordCountOf (headerOf 0x100020000800001F) ≡ 128)
+      × (wordCountOf (headerOf 0x200020000000001F) ≡ 1024)
+      × (wordCountOf (headerOf 0x300020000800001F) ≡ 128)
+  -- "Results: n distances and n parents", "D+v and P+v": D at 3m and P at 3m+n, D at n² and P at n²+n, D at
+  -- 3m+1 and P at 3m+n+1, at the limits and at the plans below.
   pub results : (resultsOf (headerOf 0x100020000800001F) distances ≡ span 384 32)
       × (resultsOf (headerOf 0x100020000800001F) parents ≡ span 416 32)
       × (resultsOf (headerOf 0x1000020000200001) distances ≡ span 6 2)
@@ -128,13 +197,23 @@ pub record Facts : Type 0 where
       × (resultsOf (headerOf 0x200020000000001F) parents ≡ span 1056 32)
       × (resultsOf (headerOf 0x2000020000000001) distances ≡ span 4 2)
       × (resultsOf (headerOf 0x2000020000000001) parents ≡ span 6 2)
-  -- "OPEN X+7: the verdict": at the plans below and at the limits; method 2 has none.
+      × (resultsOf (headerOf 0x300020000800001F) distances ≡ span 385 32)
+      × (resultsOf (headerOf 0x300020000800001F) parents ≡ span 417 32)
+      × (resultsOf (headerOf 0x3000020000200001) distances ≡ span 7 2)
+      × (resultsOf (headerOf 0x3000020000200001) parents ≡ span 9 2)
+  -- "OPEN X+7: the verdict", "OPEN X+8: the verdict": at the plans below and at the limits; method 2 has none.
   pub verdict : (verdictCell (headerOf 0x1000020000200001) ≡ some 19)
       × (verdictCell (headerOf 0x100020000800001F) ≡ some 487)
       × (verdictCell (headerOf 0x2000020000000001) ≡ none)
+      × (verdictCell (headerOf 0x3000020000200001) ≡ some 25)
+      × (verdictCell (headerOf 0x300020000800001F) ≡ some 553)
   -- "Plan of method 1": the opening, n-1 passes over all i, the check over all i, OPEN X+7.
   pub plan1 : planOf (headerOf 0x1000020000200001)
       ≡ (0x1000020000200001 ∷ opening1) ++ gather0 ++ relax0 ++ gather1 ++ relax1 ++ gather0 ++ check0 ++ gather1 ++ check1
       ++ (0x7000000001300000 ∷ [])
   -- "Plan of method 2": the opening, n turns.
   pub plan2 : planOf (headerOf 0x2000020000000001) ≡ (0x2000020000000001 ∷ opening2) ++ turn2 ++ turn2
+  -- "Ask 3": the opening, the preparation over all i, n-1 passes, the check, OPEN X+8.
+  pub plan3 : planOf (headerOf 0x3000020000200001)
+      ≡ (0x3000020000200001 ∷ opening3) ++ prepare3 ++ bid0 ++ sweep0 ++ bid1 ++ sweep1 ++ take3 ++ bid0 ++ probe0 ++ bid1 ++ probe1 ++ test3
+      ++ (0x7000000001900000 ∷ [])

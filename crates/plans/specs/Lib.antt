@@ -4,5 +4,6 @@ pub mod Regions
 pub mod Outline
 pub mod Method1
 pub mod Method2
+pub mod Method3
 pub mod Plan
 pub mod Facts

@@ -15,14 +15,14 @@ byMethod method other row = getD (other ∷ row) method other
 
 -- The methods that there are.
 abbrev pub knownMethod : (method : ℕ) → Bool
-knownMethod method = byMethod method false (true ∷ true ∷ [])
+knownMethod method = byMethod method false (true ∷ true ∷ true ∷ [])
 
 -- The greatest counts of vertices and edges.
 abbrev pub mostVertices : ℕ
 mostVertices = 32
 
 abbrev pub mostEdges : (method : ℕ) → ℕ
-mostEdges method = byMethod method 0 (128 ∷ 0 ∷ [])
+mostEdges method = byMethod method 0 (128 ∷ 0 ∷ 128 ∷ [])
 
 -- Weights (prices): an edge's from the least to the greatest, an entry's from 0, or -1, which stands for no edge.
 abbrev pub mostWeight : ℕ

@@ -14,6 +14,7 @@ use Rattle.plans.specs.Limits.{far, byMethod, knownMethod, mostVertices,
 use Rattle.plans.specs.Regions.{address, cell}
 use Rattle.plans.specs.Method1 as Method1
 use Rattle.plans.specs.Method2 as Method2
+use Rattle.plans.specs.Method3 as Method3
 
 -- Header word: method 4 bits, n 20, m 20, source 20.
 abbrev pub headerOf : (word : ℕ) → Header
@@ -33,13 +34,14 @@ pub record Accepted (h : Header) : Type 0 where
 
 -- How many words of a request follow the header.
 unfoldable pub wordCountOf : Header → ℕ
-wordCountOf h = byMethod (h .method) 0 (h .edges ∷ (h .vertices * h .vertices) ∷ [])
+wordCountOf h = byMethod (h .method) 0 (h .edges ∷ (h .vertices * h .vertices) ∷ h .edges ∷ [])
 
 unfoldable pub instructionsOf : Header → List (Instruction ℕ)
 instructionsOf h =
     byMethod (h .method) []
     (Method1.plan (address (Method1.starts (h .vertices) (h .edges))) far (h .vertices) (h .edges) (h .source)
     ∷ Method2.plan (address (Method2.starts (h .vertices))) far (h .vertices) (h .source)
+    ∷ Method3.plan (address (Method3.starts (h .vertices) (h .edges))) far (h .vertices) (h .edges) (h .source)
     ∷ [])
 
 -- The plan: the header word, then the operation words.
@@ -48,7 +50,10 @@ planOf h = headerWord h ∷ map encode (instructionsOf h)
 
 -- The cells that it needs.
 unfoldable pub cellsOf : Header → ℕ
-cellsOf h = byMethod (h .method) 0 (Method1.cellCount (h .vertices) (h .edges) ∷ Method2.cellCount (h .vertices) ∷ [])
+cellsOf h =
+    let n = h .vertices in
+    let m = h .edges in
+    byMethod (h .method) 0 (Method1.cellCount n m ∷ Method2.cellCount n ∷ Method3.cellCount n m ∷ [])
 
 -- The kinds of results, a lent buffer for each.
 pub data Kind : Type 0 where
@@ -71,14 +76,20 @@ span first count = record { first = first; count = count }
 unfoldable pub resultsOf : Header → Kind → Span
 resultsOf h =
     let n = h .vertices in
+    let m = h .edges in
     byMethod (h .method) (λ k. span 0 0)
-    (byKind (span (cell (Method1.starts n (h .edges)) (Method1.D 0)) n) (span (cell (Method1.starts n (h .edges)) (Method1.P 0)) n)
+    (byKind (span (cell (Method1.starts n m) (Method1.D 0)) n) (span (cell (Method1.starts n m) (Method1.P 0)) n)
     ∷ byKind (span (cell (Method2.starts n) (Method2.D 0)) n) (span (cell (Method2.starts n) (Method2.P 0)) n)
+    ∷ byKind (span (cell (Method3.starts n m) (Method3.D 0)) n) (span (cell (Method3.starts n m) (Method3.P 0)) n)
     ∷ [])
 
 -- The cell that its last word opens, the verdict's; none in a method without a verdict.
 unfoldable pub verdictCell : Header → Option ℕ
-verdictCell h = byMethod (h .method) none (some (cell (Method1.starts (h .vertices) (h .edges)) (Method1.X 7)) ∷ none ∷ [])
+verdictCell h =
+    let n = h .vertices in
+    let m = h .edges in
+    byMethod (h .method) none
+    (some (cell (Method1.starts n m) (Method1.X 7)) ∷ none ∷ some (cell (Method3.starts n m) (Method3.X 8)) ∷ [])
 
 -- The words that a run publishes: the verdict, where there is a cell for it.
 abbrev pub published : Option ℕ → (verdict : ℕ) → List ℕ
@@ -89,11 +100,19 @@ published (some cell) verdict = verdict ∷ []
 unfoldable pub lengthOf : Header → ℕ
 lengthOf h =
     let n = h .vertices in
+    let m = h .edges in
     byMethod (h .method) 0
-    ((3 * n + 4 + h .edges * (8 * (n * n) + 3 * n - 1)) ∷ (n * n * n + 11 * (n * n) + 6 * n + 3) ∷ [])
+    ((3 * n + 4 + m * (8 * (n * n) + 3 * n - 1))
+    ∷ (n * n * n + 11 * (n * n) + 6 * n + 3)
+    ∷ (3 * (n * n) + 3 * n + 5 + m * (3 * (n * n) + 10 * n - 1))
+    ∷ [])
 
 unfoldable pub roundsOfPlan : Header → ℕ
 roundsOfPlan h =
     let n = h .vertices in
+    let m = h .edges in
     byMethod (h .method) 0
-    ((3 * n + 3 + h .edges * (23 * (n * n) + 6 * n - 1)) ∷ (n * n * n + 24 * (n * n) + 5 * n + 2) ∷ [])
+    ((3 * n + 3 + m * (23 * (n * n) + 6 * n - 1))
+    ∷ (n * n * n + 24 * (n * n) + 5 * n + 2)
+    ∷ (8 * (n * n) + 3 * n + 4 + m * (3 * (n * n) + 28 * n + 4))
+    ∷ [])

@@ -33,3 +33,18 @@ module _ {A : Type 0} where
 
   abbrev pub region6 : A → ℕ × A
   region6 p = (6, p)
+
+  abbrev pub region7 : A → ℕ × A
+  region7 p = (7, p)
+
+  abbrev pub region8 : A → ℕ × A
+  region8 p = (8, p)
+
+  abbrev pub region9 : A → ℕ × A
+  region9 p = (9, p)
+
+  abbrev pub region10 : A → ℕ × A
+  region10 p = (10, p)
+
+  abbrev pub region11 : A → ℕ × A
+  region11 p = (11, p)

@@ -55,7 +55,7 @@ module _ (request : List ℕ) (lent : Lengths) (w : WithinLimits request lent) w
   -- A request that runs in whatever buffers has a header word, and neither header nor words meet a refusal.
   unmet : (length request ≡ 0 → ⊥)
       × (headerRefusal (headerIn request) ≡ none)
-      × (wordsRefusal (headerIn request) 0 (wordsIn request) ≡ none)
+      × (wordsRefusal (headerIn request) 0 0 (wordsIn request) ≡ none)
   unmet =
       let (some-word, header, _) = public-none request lent .0 (w .public) in
       let (_, _, words) = all-none request lent some-word .0 (within request lent .1 w) in

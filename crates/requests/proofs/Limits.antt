@@ -2,13 +2,14 @@
 -- Rests on Agreed and on the laws of plans.
 use mathlib.Core.Path.{_≡_, refl, sym, ap}
 use mathlib.Core.Logic.{_↔_, _⊎_, inl, inr, ⊎-elim}
-use mathlib.Core.Bool.{Bool, _&&_}
+use mathlib.Core.Bool.{Bool, true, false, _&&_}
 use mathlib.Core.List.{List, [], _∷_, _++_}
 use Prim.Native.Nat.{ℕ, zero, suc, _+_, _-_, _*_, _<_, _≤_}
-use native.Mathlib.Nat.{add-zero}
+use native.Mathlib.Nat.{add-zero, zero-add, add-suc, suc-add}
 use native.Mathlib.Omega.{arith}
 use lib.Dec.{T, ltb, leb, eqb, ltb→lt, leb→le, eqb→eq, lt→ltb, le→leb}
 use lib.IntN.{ℤ, pos, negsuc, natAbs, pos-ne-negsuc}
+use lib.ListN.{getD}
 use lib.Signed.{leZ, _≤ℤ_, leZ-yes}
 use mir.Facts.{and-yes, yes-and}
 use borrow.Author.Tests.{eq-eqb}
@@ -16,15 +17,15 @@ use Rattle.answers.specs.declared.Refusal.{Refusal}
 use Rattle.answers.specs.Refusal.{plain, placed, orElse}
 use Rattle.answers.proofs.Unmet.{first-append}
 use Rattle.plans.specs.declared.Header.{Header}
-use Rattle.plans.specs.Limits.{byMethod}
+use Rattle.plans.specs.Limits.{byMethod, knownMethod}
 use Rattle.plans.specs.Plan.{Accepted, wordCountOf, cellsOf, Kind, byKind, resultsOf, lengthOf, verdictCell}
 use Rattle.plans.proofs.EachKind.{each-kind, every-kind}
-use Rattle.plans.proofs.Headers.{method-is, is-known, by-method}
+use Rattle.plans.proofs.Headers.{by-method}
 use Rattle.planner.specs.Refusal.{headerTests, headerRefusal}
 use Rattle.requests.specs.declared.Lengths.{Lengths}
 use Rattle.requests.specs.Word.{fromField, toField, spareOfEdge, spareOfEntry, weightOf}
-use Rattle.requests.specs.Refusal.{logLengthOf, roomFor, askedOf, sizesTests, sizesRefusal, inRange, edgeTests, edgeRefusal, entryTests, entryRefusal, wordRefusal}
-use Rattle.requests.specs.WithinLimits.{headerLimits, sizesLimits, edgeLimits, entryLimits, wordLimits}
+use Rattle.requests.specs.Refusal.{logLengthOf, roomFor, askedOf, sizesTests, sizesRefusal, inRange, edgeTests, edgeRefusal, orderTests, sortedRefusal, entryTests, entryRefusal, wordRefusal}
+use Rattle.requests.specs.WithinLimits.{OneOf, headerLimits, logFigure, sizesLimits, edgeLimits, orderLimits, entryLimits, wordLimits}
 use Rattle.requests.proofs.Agreed.{Agree, Agrees, agreed}
 
 -- ---- one test
@@ -40,27 +41,46 @@ at-most x y = (leb→le x y, le→leb x y)
 
 -- ---- what is public
 
--- The log that the header asks for, in document 01's figures.
-abbrev logFigure : Header → ℕ
-logFigure h =
-    byMethod (h .method) 0
-    ((3 * h .vertices + 5 + h .edges * (8 * (h .vertices * h .vertices) + 3 * h .vertices - 1))
-    ∷ (h .vertices * h .vertices * h .vertices + 11 * (h .vertices * h .vertices) + 6 * h .vertices + 3)
-    ∷ [])
+-- The numbers of the places that are marked in a row, whose first place has the number `from`.
+abbrev places : (from : ℕ) → List Bool → List ℕ
+places from [] = []
+places from (true ∷ row) = from ∷ places (suc from) row
+places from (false ∷ row) = places (suc from) row
 
-log-figure : (h : Header) → Accepted h → logFigure h ≡ logLengthOf h
+from-on : (from : ℕ) (row : List Bool) (k : ℕ) → OneOf (places from row) k → from ≤ k
+from-on from [] k o = absurd o
+from-on from (true ∷ row) k o = ⊎-elim (λ (e : k ≡ from). omega arith) (λ p. omega (arith, from-on (suc from) row k p)) o
+from-on from (false ∷ row) k o = omega (arith, from-on (suc from) row k o)
+
+marked : (from : ℕ) (row : List Bool) (k : ℕ) → T (getD row k false) ↔ OneOf (places from row) (from + k)
+marked from [] k = (λ t. t, λ o. o)
+marked from (true ∷ row) zero = (λ t. inl (add-zero from), λ o. tt)
+marked from (false ∷ row) zero = (λ t. absurd t, λ o. let no : ⊥ = omega (arith, from-on (suc from) row (from + 0) o) in no)
+marked from (true ∷ row) (suc k) =
+    let rest = rw (suc-add, ← add-suc) at (marked (suc from) row k) in (
+      λ t. inr (rest .0 t),
+      ⊎-elim (λ (e : from + suc k ≡ from). let no : ⊥ = omega arith in absurd no) (rest .1),
+    )
+marked from (false ∷ row) (suc k) = rw (suc-add, ← add-suc) at (marked (suc from) row k)
+
+known-is : (method : ℕ) → T (knownMethod method) ↔ OneOf (1 ∷ 2 ∷ 3 ∷ []) method
+known-is method = rw zero-add at (marked 0 (false ∷ true ∷ true ∷ true ∷ []) method)
+
+-- The log that the header asks for.
+log-figure : (h : Header) → Accepted h → logFigure (h .method) (h .vertices) (h .edges) ≡ logLengthOf h
 unfolding logLengthOf verdictCell lengthOf
 log-figure =
-    by-method (λ h. logFigure h ≡ logLengthOf h)
-    (λ n m source a. one-more n (m * (8 * (n * n) + 3 * n - 1)))
+    by-method (λ h. logFigure (h .method) (h .vertices) (h .edges) ≡ logLengthOf h)
+    (λ n m source a. one-more (3 * n) 4 (m * (8 * (n * n) + 3 * n - 1)))
     (λ n source a. sym (add-zero _))
+    (λ n m source a. one-more (3 * (n * n) + 3 * n) 5 (m * (3 * (n * n) + 10 * n - 1)))
   where
-    one-more : (n x : ℕ) → 3 * n + 5 + x ≡ 3 * n + 4 + x + 1
-    one-more n x = omega arith
+    one-more : (a b x : ℕ) → a + suc b + x ≡ a + b + x + 1
+    one-more a b x = omega arith
 
 -- So many results of each kind.
 abbrev resultsFigure : Header → Kind → ℕ
-resultsFigure h = byMethod (h .method) (λ k. 0) (byKind (h .vertices) (h .vertices) ∷ byKind (h .vertices) (h .vertices) ∷ [])
+resultsFigure h = byMethod (h .method) (λ k. 0) (byKind (h .vertices) (h .vertices) ∷ byKind (h .vertices) (h .vertices) ∷ byKind (h .vertices) (h .vertices) ∷ [])
 
 results-figure : (h : Header) → Accepted h → (k : Kind) → resultsFigure h k ≡ roomFor (askedOf h) k
 unfolding resultsOf
@@ -68,6 +88,7 @@ results-figure =
     by-method (λ h. (k : Kind) → resultsFigure h k ≡ roomFor (askedOf h) k)
     (λ n m source a. each-kind _ refl refl)
     (λ n source a. each-kind _ refl refl)
+    (λ n m source a. each-kind _ refl refl)
 
 sizes-agree : (h : Header) → Accepted h → (words : ℕ) (lent : Lengths)
     → Agree plain (sizesTests h words lent) (sizesLimits (h .method) (h .vertices) (h .edges) words lent)
@@ -99,7 +120,7 @@ header-agrees : (h : Header) (ts : List (Bool × Refusal)) (ls : List (ℕ × Ty
     → Agree plain (headerTests h ++ ts) (headerLimits (h .method) (h .vertices) (h .edges) (h .source) ++ ls)
 header-agrees h ts ls after = (
   refl,
-  (method-is (h .method), λ e. rw (is-known (h .method) e) tt),
+  known-is (h .method),
   λ known. (
     refl,
     (
@@ -115,7 +136,7 @@ header-agrees h ts ls after = (
         λ source.
             after
             (record {
-              known = rw (is-known (h .method) known) tt;
+              known = known-is (h .method) .1 known;
               vertices-some = vertices .0;
               vertices-few = vertices .1;
               edges-few = edges;
@@ -158,22 +179,33 @@ or-none (negsuc (suc n)) = (
   ⊎-elim (λ (e : negsuc (suc n) ≡ negsuc 0). let no : ⊥ = omega (arith, ap natAbs e) in absurd no) (λ p. absurd (p .0 .le)),
 )
 
-edge-agrees : (n place w : ℕ) → Agree (λ k. placed k place) (edgeTests n place w) (edgeLimits n w)
+edge-agrees : (n place w : ℕ) (ts : List (Bool × Refusal)) (ls : List (ℕ × Type 0)) → Agree (λ k. placed k place) ts ls
+    → Agree (λ k. placed k place) (edgeTests n place w ts) (edgeLimits n w ls)
 unfolding inRange
-edge-agrees n place w = (
+edge-agrees n place w ts ls more = (
   refl,
   is-zero (spareOfEdge w),
-  λ spare. (refl, is-below (fromField w) n, λ from. (refl, is-below (toField w) n, λ to. (refl, between (weightOf w), λ weight. tt))),
+  λ spare. (refl, is-below (fromField w) n, λ from. (refl, is-below (toField w) n, λ to. (refl, between (weightOf w), λ weight. more))),
 )
+
+order-agrees : (place before w : ℕ) → Agree (λ k. placed k place) (orderTests place before w) (orderLimits before w)
+order-agrees place before w = (refl, at-most (toField before) (toField w), λ order. tt)
 
 entry-agrees : (place w : ℕ) → Agree (λ k. placed k place) (entryTests place w) (entryLimits w)
 unfolding inRange
 entry-agrees place w = (refl, is-zero (spareOfEntry w), λ spare. (refl, or-none (weightOf w), λ weight. tt))
 
-pub word-agrees : (h : Header) → Accepted h → (place w : ℕ)
-    → Agrees (λ k. placed k place) (wordRefusal h place w) (wordLimits (h .method) (h .vertices) w)
-unfolding wordRefusal edgeRefusal entryRefusal
+pub word-agrees : (h : Header) → Accepted h → (place before w : ℕ)
+    → Agrees (λ k. placed k place) (wordRefusal h place before w) (wordLimits (h .method) (h .vertices) before w)
+unfolding wordRefusal edgeRefusal sortedRefusal entryRefusal
 word-agrees =
-    by-method (λ h. (place w : ℕ) → Agrees (λ k. placed k place) (wordRefusal h place w) (wordLimits (h .method) (h .vertices) w))
-    (λ n m source a place w. agreed (λ k. placed k place) (λ k. refl) (edgeTests n place w) (edgeLimits n w) (edge-agrees n place w))
-    (λ n source a place w. agreed (λ k. placed k place) (λ k. refl) (entryTests place w) (entryLimits w) (entry-agrees place w))
+    by-method
+    (λ h. (place before w : ℕ)
+    → Agrees (λ k. placed k place) (wordRefusal h place before w) (wordLimits (h .method) (h .vertices) before w))
+    (λ n m source a place before w. agreed (λ k. placed k place) (λ k. refl) (edgeTests n place w []) (edgeLimits n w []) (edge-agrees n place w [] [] tt))
+    (λ n source a place before w. agreed (λ k. placed k place) (λ k. refl) (entryTests place w) (entryLimits w) (entry-agrees place w))
+    (λ n m source a place before w.
+    let ts = orderTests place before w in
+    let ls = orderLimits before w in
+    agreed (λ k. placed k place) (λ k. refl) (edgeTests n place w ts) (edgeLimits n w ls)
+    (edge-agrees n place w ts ls (order-agrees place before w)))

@@ -27,7 +27,7 @@ pub in-order : (request : List ℕ) (lent : Lengths) → (length request ≡ 0 �
     → requestRefusal request lent
     ≡ orElse (headerRefusal (headerOf (getD request 0 0)))
     (orElse (sizesRefusal (headerOf (getD request 0 0)) (length (drop 1 request)) lent)
-    (wordsRefusal (headerOf (getD request 0 0)) 0 (drop 1 request)))
+    (wordsRefusal (headerOf (getD request 0 0)) 0 0 (drop 1 request)))
 unfolding requestRefusal
 in-order [] lent n = absurd (n refl)
 in-order (w ∷ ws) lent n = refl
@@ -40,7 +40,7 @@ module _ (request : List ℕ) (lent : Lengths) (some-word : length request ≡ 0
     (h : Header) (is : h ≡ headerOf (getD request 0 0)) where
   all-checks : requestRefusal request lent
       ≡ orElse (headerRefusal h)
-      (orElse (sizesRefusal h (length request - 1) lent) (wordsRefusal h 0 (drop 1 request)))
+      (orElse (sizesRefusal h (length request - 1) lent) (wordsRefusal h 0 0 (drop 1 request)))
   all-checks = rw (is, ← length-drop 1 request) (in-order request lent some-word)
 
   module _ (s : Checked) (header : found s ≡ headerRefusal h) where
@@ -51,6 +51,6 @@ module _ (request : List ℕ) (lent : Lengths) (some-word : length request ≡ 0
       pub sizes-bad : (r : Refusal) → t ≡ Refused r → some r ≡ requestRefusal request lent
       sizes-bad r e = rw (all-checks, ← header, fine, ← sizes, e)
 
-      pub words-say : t ≡ Accepted → (u : Checked) → found u ≡ wordsRefusal h 0 (drop 1 request)
+      pub words-say : t ≡ Accepted → (u : Checked) → found u ≡ wordsRefusal h 0 0 (drop 1 request)
           → found u ≡ requestRefusal request lent
       words-say e u words = rw (all-checks, ← header, fine, ← sizes, e, words)

@@ -25,15 +25,15 @@ use Rattle.requests.proofs.Numbers.{public-unplaced, words-placed, word
 
 -- ---- words in their order
 
--- Of words, the first of which is at `base`: the one at `place` meets r, and none before it meets any. k counts from the first.
-record First (h : Header) (base : ℕ) (ws : List ℕ) (r : Refusal) : Type 0 where
+-- Of words, the first of which is at `base` and comes after u: the one at `place` meets r, and none before it meets any. k counts from the first.
+record First (h : Header) (base u : ℕ) (ws : List ℕ) (r : Refusal) : Type 0 where
   k : ℕ
   there : k < length ws
-  met : (place : ℕ) → place ≡ base + k → wordRefusal h place (getD ws k 0) ≡ some r
-  before : (j place : ℕ) → j < k → place ≡ base + j → wordRefusal h place (getD ws j 0) ≡ none
+  met : (place : ℕ) → place ≡ base + k → wordRefusal h place (getD (u ∷ ws) k 0) (getD ws k 0) ≡ some r
+  before : (j place : ℕ) → j < k → place ≡ base + j → wordRefusal h place (getD (u ∷ ws) j 0) (getD ws j 0) ≡ none
 
-module _ (h : Header) (base w : ℕ) (ws : List ℕ) (r : Refusal) where
-  here : wordRefusal h base w ≡ some r → First h base (w ∷ ws) r
+module _ (h : Header) (base u w : ℕ) (ws : List ℕ) (r : Refusal) where
+  here : wordRefusal h base u w ≡ some r → First h base u (w ∷ ws) r
   here e =
       record {
         k = 0;
@@ -42,12 +42,12 @@ module _ (h : Header) (base w : ℕ) (ws : List ℕ) (r : Refusal) where
         before = λ j place l i. let no : ⊥ = omega arith in absurd no;
       }
 
-  module _ (e : wordRefusal h base w ≡ none) (f : First h (suc base) ws r) where
-    earlier : (j place : ℕ) → j < suc (f .k) → place ≡ base + j → wordRefusal h place (getD (w ∷ ws) j 0) ≡ none
+  module _ (e : wordRefusal h base u w ≡ none) (f : First h (suc base) w ws r) where
+    earlier : (j place : ℕ) → j < suc (f .k) → place ≡ base + j → wordRefusal h place (getD (u ∷ w ∷ ws) j 0) (getD (w ∷ ws) j 0) ≡ none
     earlier zero place l i = let s : place ≡ base = omega arith in rw s e
     earlier (suc j) place l i = f .before j place (omega arith) (omega arith)
 
-    later : First h base (w ∷ ws) r
+    later : First h base u (w ∷ ws) r
     later =
         record {
           k = suc (f .k);
@@ -56,30 +56,30 @@ module _ (h : Header) (base w : ℕ) (ws : List ℕ) (r : Refusal) where
           before = earlier;
         }
 
-first-at : (h : Header) (base w : ℕ) (ws : List ℕ) (r : Refusal) (o : Option Refusal) → wordRefusal h base w ≡ o
-    → orElse o (wordsRefusal h (suc base) ws) ≡ some r
-    → (wordsRefusal h (suc base) ws ≡ some r → First h (suc base) ws r) → First h base (w ∷ ws) r
-first-at h base w ws r none i e rest = later h base w ws r i (rest e)
-first-at h base w ws r (some q) i e rest = here h base w ws r (i ∙ e)
+first-at : (h : Header) (base u w : ℕ) (ws : List ℕ) (r : Refusal) (o : Option Refusal) → wordRefusal h base u w ≡ o
+    → orElse o (wordsRefusal h (suc base) w ws) ≡ some r
+    → (wordsRefusal h (suc base) w ws ≡ some r → First h (suc base) w ws r) → First h base u (w ∷ ws) r
+first-at h base u w ws r none i e rest = later h base u w ws r i (rest e)
+first-at h base u w ws r (some q) i e rest = here h base u w ws r (i ∙ e)
 
-first-from : (h : Header) (base : ℕ) (ws : List ℕ) (r : Refusal) → wordsRefusal h base ws ≡ some r → First h base ws r
+first-from : (h : Header) (base u : ℕ) (ws : List ℕ) (r : Refusal) → wordsRefusal h base u ws ≡ some r → First h base u ws r
 unfolding wordsRefusal
-first-from h base [] r e = absurd (Option·some-ne-none r (sym e))
-first-from h base (w ∷ ws) r e = first-at h base w ws r (wordRefusal h base w) refl e (first-from h (suc base) ws r)
+first-from h base u [] r e = absurd (Option·some-ne-none r (sym e))
+first-from h base u (w ∷ ws) r e = first-at h base u w ws r (wordRefusal h base u w) refl e (first-from h (suc base) w ws r)
 
-met-at : (h : Header) (base : ℕ) (ws : List ℕ) (r : Refusal) (k place : ℕ) → place ≡ base + k → k < length ws
-    → wordRefusal h place (getD ws k 0) ≡ some r
-    → ((j place : ℕ) → j < k → place ≡ base + j → wordRefusal h place (getD ws j 0) ≡ none)
-    → wordsRefusal h base ws ≡ some r
+met-at : (h : Header) (base u : ℕ) (ws : List ℕ) (r : Refusal) (k place : ℕ) → place ≡ base + k → k < length ws
+    → wordRefusal h place (getD (u ∷ ws) k 0) (getD ws k 0) ≡ some r
+    → ((j place : ℕ) → j < k → place ≡ base + j → wordRefusal h place (getD (u ∷ ws) j 0) (getD ws j 0) ≡ none)
+    → wordsRefusal h base u ws ≡ some r
 unfolding wordsRefusal
-met-at h base [] r k place i l e before = let no : ⊥ = omega arith in absurd no
-met-at h base (w ∷ ws) r zero place i l e before = let s : base ≡ place = omega arith in rw (s, e)
-met-at h base (w ∷ ws) r (suc k) place i l e before =
+met-at h base u [] r k place i l e before = let no : ⊥ = omega arith in absurd no
+met-at h base u (w ∷ ws) r zero place i l e before = let s : base ≡ place = omega arith in rw (s, e)
+met-at h base u (w ∷ ws) r (suc k) place i l e before =
     rw (before 0 base (omega arith) (omega arith))
-    (met-at h (suc base) ws r k place (omega arith) (omega arith) e (λ j p b q. before (suc j) p (omega arith) (omega arith)))
+    (met-at h (suc base) w ws r k place (omega arith) (omega arith) e (λ j p b q. before (suc j) p (omega arith) (omega arith)))
 
-first-met : (h : Header) (base : ℕ) (ws : List ℕ) (r : Refusal) → First h base ws r → wordsRefusal h base ws ≡ some r
-first-met h base ws r f = met-at h base ws r (f .k) (base + f .k) refl (f .there) (f .met (base + f .k) refl) (f .before)
+first-met : (h : Header) (base u : ℕ) (ws : List ℕ) (r : Refusal) → First h base u ws r → wordsRefusal h base u ws ≡ some r
+first-met h base u ws r f = met-at h base u ws r (f .k) (base + f .k) refl (f .there) (f .met (base + f .k) refl) (f .before)
 
 -- ---- the request
 
@@ -103,7 +103,7 @@ module _ (request : List ℕ) (lent : Lengths) where
   abbrev public : Option Refusal
   public = orElse (headerRefusal h) (sizesRefusal h (length ws) lent)
 
-  in-two : (length request ≡ 0 → ⊥) → requestRefusal request lent ≡ orElse public (wordsRefusal h 0 ws)
+  in-two : (length request ≡ 0 → ⊥) → requestRefusal request lent ≡ orElse public (wordsRefusal h 0 0 ws)
   in-two some-word = in-order request lent some-word ∙ orElse-assoc (headerRefusal h) _ _
 
   -- With a header word.
@@ -112,7 +112,7 @@ module _ (request : List ℕ) (lent : Lengths) where
       ↔ FirstBroken (headerLimits (h .method) (h .vertices) (h .edges) (h .source) ++ sizesLimits (h .method) (h .vertices) (h .edges) (length ws) lent) number
   by-public some-word number =
       let agrees = public-agrees h (length ws) lent .broken number in (
-        λ e. agrees .0 (from-first public _ number (words-placed h 0 ws) (sym (in-two some-word) ∙ e)),
+        λ e. agrees .0 (from-first public _ number (words-placed h 0 0 ws) (sym (in-two some-word) ∙ e)),
         λ b. in-two some-word ∙ rw (agrees .1 b),
       )
 
@@ -124,27 +124,27 @@ module _ (request : List ℕ) (lent : Lengths) where
         let (met, words) = from-second public _ number place (public-unplaced h (length ws) lent) (sym (in-two some-word) ∙ e) in
         let (header, sizes) = orElse-none (headerRefusal h) (sizesRefusal h (length ws) lent) .0 met in
         let a = accepted h (sym header) in
-        let f = first-from h 0 ws (placed number place) words in
-        let at : place ≡ f .k = word-place h (f .k) (getD ws (f .k) 0) .holds (placed number place) (f .met (f .k) (omega arith)) in
+        let f = first-from h 0 0 ws (placed number place) words in
+        let at : place ≡ f .k = word-place h (f .k) (getD (0 ∷ ws) (f .k) 0) (getD ws (f .k) 0) .holds (placed number place) (f .met (f .k) (omega arith)) in
         record {
           public = public-none request lent .1 (some-word, header, sizes);
-          words-before = λ i l. word-agrees h a i (getD ws i 0) .kept .0 (f .before i i (omega arith) (omega arith));
+          words-before = λ i l. word-agrees h a i (getD (0 ∷ ws) i 0) (getD ws i 0) .kept .0 (f .before i i (omega arith) (omega arith));
           there = omega arith;
-          broken = word-agrees h a place (getD ws place 0) .broken number .0 (rw (sym at) at (f .met place (omega arith)));
+          broken = word-agrees h a place (getD (0 ∷ ws) place 0) (getD ws place 0) .broken number .0 (rw (sym at) at (f .met place (omega arith)));
         }
 
     refused-word : BrokenAt request lent place number → requestRefusal request lent ≡ some (placed number place)
     refused-word w =
         let (some-word, header, sizes) = public-none request lent .0 (w .public) in
         let a = accepted h (sym header) in
-        let first : First h 0 ws (placed number place) =
+        let first : First h 0 0 ws (placed number place) =
         record {
           k = place;
           there = w .there;
-          met = λ p i. let s : p ≡ place = omega arith in rw s (word-agrees h a place (getD ws place 0) .broken number .1 (w .broken));
-          before = λ j p l i. let s : p ≡ j = omega arith in rw s (word-agrees h a j (getD ws j 0) .kept .1 (w .words-before j l));
+          met = λ p i. let s : p ≡ place = omega arith in rw s (word-agrees h a place (getD (0 ∷ ws) place 0) (getD ws place 0) .broken number .1 (w .broken));
+          before = λ j p l i. let s : p ≡ j = omega arith in rw s (word-agrees h a j (getD (0 ∷ ws) j 0) (getD ws j 0) .kept .1 (w .words-before j l));
         } in
-        in-two some-word ∙ rw (header, sizes) (first-met h 0 ws (placed number place) first)
+        in-two some-word ∙ rw (header, sizes) (first-met h 0 0 ws (placed number place) first)
 
     -- With a place: a word's.
     pub word-refused : (requestRefusal request lent ≡ some (placed number place)) ↔ BrokenAt request lent place number

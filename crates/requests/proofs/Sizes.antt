@@ -25,6 +25,10 @@ module _ (h : Header) where
   unfolding wordCountOf
   words-one e = rw e
 
+  pub words-three : h .method ≡ 3 → h .edges ≡ wordCountOf h
+  unfolding wordCountOf
+  words-three e = rw e
+
   pub words-two : h .method ≡ 2 → h .vertices * h .vertices ≡ wordCountOf h
   unfolding wordCountOf
   words-two e = rw e
@@ -36,6 +40,10 @@ module _ (h : Header) where
   pub cells-two : h .method ≡ 2 → h .vertices * h .vertices + 5 * h .vertices + 6 ≡ cellsOf h
   unfolding cellsOf
   cells-two e = rw e
+
+  pub cells-three : h .method ≡ 3 → 2 * (h .vertices * h .edges) + 4 * h .edges + 5 * h .vertices + 10 ≡ cellsOf h
+  unfolding cellsOf
+  cells-three e = rw e
 
   -- size is the plan's length, as the code has it.
   pub log-opened : (size cell : ℕ) → size ≡ lengthOf h → some cell ≡ verdictCell h → size + 1 ≡ logLengthOf h

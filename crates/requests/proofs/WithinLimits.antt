@@ -1,7 +1,7 @@
 -- A request meets no refusal exactly where it is within the limits; what the code's definitions make of these; and how large its fields are.
 -- Rests on Limits, Sizes, Order and the planner's Headers.
 use mathlib.Core.Path.{_≡_, refl, sym, _∙_}
-use mathlib.Core.Logic.{_↔_, _⊎_}
+use mathlib.Core.Logic.{_↔_, _⊎_, inl, inr}
 use mathlib.Core.List.{List, [], _∷_}
 use mathlib.Core.Option.{none, Option·some-ne-none}
 use Prim.Native.Nat.{ℕ, zero, suc, _-_, _*_, _<_, _≤_}
@@ -20,32 +20,32 @@ use Rattle.planner.proofs.Headers.{accepted}
 use Rattle.requests.specs.declared.Lengths.{Lengths}
 use Rattle.requests.specs.Word.{fromField, toField, weightOf}
 use Rattle.requests.specs.Refusal.{logLengthOf, roomFor, sizesRefusal, wordRefusal, wordsRefusal, requestRefusal}
-use Rattle.requests.specs.WithinLimits.{headerIn, wordsIn, AllKept, publicLimits, edgeLimits, entryLimits, wordLimits, WithinLimits}
-use Rattle.requests.proofs.Sizes.{words-one, words-two, Sized, sizes-none}
+use Rattle.requests.specs.WithinLimits.{headerIn, wordsIn, AllKept, publicLimits, edgeLimits, orderLimits, entryLimits, wordLimits, WithinLimits}
+use Rattle.requests.proofs.Sizes.{words-one, words-two, words-three, Sized, sizes-none}
 use Rattle.requests.proofs.Order.{no-word, in-order}
 use Rattle.requests.proofs.Limits.{public-agrees, word-agrees}
 
 -- ---- the words
 
--- All words, the first of which is at a place.
-abbrev Good : Header → List ℕ → Type 0
-Good h ws = (i : ℕ) → i < length ws → AllKept (wordLimits (h .method) (h .vertices) (getD ws i 0))
+-- All words, after one before them.
+abbrev Good : Header → (before : ℕ) → List ℕ → Type 0
+Good h before ws = (i : ℕ) → i < length ws → AllKept (wordLimits (h .method) (h .vertices) (getD (before ∷ ws) i 0) (getD ws i 0))
 
-words-good : (h : Header) → Accepted h → (place : ℕ) (ws : List ℕ) → wordsRefusal h place ws ≡ none → Good h ws
+words-good : (h : Header) → Accepted h → (place before : ℕ) (ws : List ℕ) → wordsRefusal h place before ws ≡ none → Good h before ws
 unfolding wordsRefusal
-words-good h a place [] e i l = absurd (not-suc-le-zero l)
-words-good h a place (w ∷ ws) e zero l =
-    word-agrees h a place w .kept .0 (orElse-none (wordRefusal h place w) (wordsRefusal h (suc place) ws) .0 e .0)
-words-good h a place (w ∷ ws) e (suc i) l =
-    words-good h a (suc place) ws
-    (orElse-none (wordRefusal h place w) (wordsRefusal h (suc place) ws) .0 e .1) i (le-of-suc-le-suc l)
+words-good h a place before [] e i l = absurd (not-suc-le-zero l)
+words-good h a place before (w ∷ ws) e zero l =
+    word-agrees h a place before w .kept .0 (orElse-none (wordRefusal h place before w) (wordsRefusal h (suc place) w ws) .0 e .0)
+words-good h a place before (w ∷ ws) e (suc i) l =
+    words-good h a (suc place) w ws
+    (orElse-none (wordRefusal h place before w) (wordsRefusal h (suc place) w ws) .0 e .1) i (le-of-suc-le-suc l)
 
-good-words : (h : Header) → Accepted h → (place : ℕ) (ws : List ℕ) → Good h ws → wordsRefusal h place ws ≡ none
+good-words : (h : Header) → Accepted h → (place before : ℕ) (ws : List ℕ) → Good h before ws → wordsRefusal h place before ws ≡ none
 unfolding wordsRefusal
-good-words h a place [] g = refl
-good-words h a place (w ∷ ws) g =
-    orElse-none (wordRefusal h place w) (wordsRefusal h (suc place) ws) .1
-    (word-agrees h a place w .kept .1 (g 0 (omega arith)), good-words h a (suc place) ws (λ i l. g (suc i) (omega arith)))
+good-words h a place before [] g = refl
+good-words h a place before (w ∷ ws) g =
+    orElse-none (wordRefusal h place before w) (wordsRefusal h (suc place) w ws) .1
+    (word-agrees h a place before w .kept .1 (g 0 (omega arith)), good-words h a (suc place) w ws (λ i l. g (suc i) (omega arith)))
 
 -- ---- the request
 
@@ -68,9 +68,9 @@ module _ (request : List ℕ) (lent : Lengths) where
   -- Where it has a header word.
   pub all-none : (length request ≡ 0 → ⊥)
       → (requestRefusal request lent ≡ none)
-      ↔ ((headerRefusal h ≡ none) × (sizesRefusal h count lent ≡ none) × (wordsRefusal h 0 (wordsIn request) ≡ none))
+      ↔ ((headerRefusal h ≡ none) × (sizesRefusal h count lent ≡ none) × (wordsRefusal h 0 0 (wordsIn request) ≡ none))
   all-none n =
-      let words = wordsRefusal h 0 (wordsIn request) in
+      let words = wordsRefusal h 0 0 (wordsIn request) in
       let all = in-order request lent n in
       let outer = orElse-none (headerRefusal h) (orElse (sizesRefusal h count lent) words) in
       let inner = orElse-none (sizesRefusal h count lent) words in (
@@ -85,11 +85,11 @@ module _ (request : List ℕ) (lent : Lengths) where
         let (header, sizes, words) = all-none some-word .0 e in
         record {
           public = public-none .1 (some-word, header, sizes);
-          words = words-good h (accepted h (sym header)) 0 (wordsIn request) words;
+          words = words-good h (accepted h (sym header)) 0 0 (wordsIn request) words;
         },
     λ w.
         let (some-word, header, sizes) = public-none .0 (w .public) in
-        all-none some-word .1 (header, sizes, good-words h (accepted h (sym header)) 0 (wordsIn request) (w .words)),
+        all-none some-word .1 (header, sizes, good-words h (accepted h (sym header)) 0 0 (wordsIn request) (w .words)),
   )
 
   -- ---- what a request within the limits has, by the definitions that the code's contracts cite
@@ -119,20 +119,36 @@ either-way : (z : ℤ) → negsuc 999999 ≤ℤ z → z ≤ℤ pos 1000000 → n
 either-way (pos n) a b = leb→le n 1000000 (b .le)
 either-way (negsuc n) a b = omega (arith, leb→le n 999999 (a .le))
 
+-- An edge's ends and weight.
+pub record EdgeWithin (n word : ℕ) : Type 0 where
+  pub from-below : fromField word < n
+  pub to-below : toField word < n
+  pub weight-most : natAbs (weightOf word) ≤ 1000000
+
+edge-within : (n word : ℕ) (more : List (ℕ × Type 0)) → AllKept (edgeLimits n word more) → EdgeWithin n word
+edge-within n word more (_, (from, (to, (weight, _)))) =
+    record { from-below = from; to-below = to; weight-most = either-way (weightOf word) (weight .0) (weight .1) }
+
 module _ (request : List ℕ) (lent : Lengths) (w : WithinLimits request lent) (i : ℕ) where
   abbrev word : ℕ
   word = getD (wordsIn request) i 0
 
-  -- Method 1: word i is an edge's.
-  pub edge-in : headerIn request .method ≡ 1 → i < headerIn request .edges
-      → (fromField word < headerIn request .vertices)
-      × (toField word < headerIn request .vertices)
-      × (natAbs (weightOf word) ≤ 1000000)
-  edge-in one l =
+  -- Methods 1 and 3: word i is an edge's.
+  pub edge-in : (headerIn request .method ≡ 1) ⊎ (headerIn request .method ≡ 3) → i < headerIn request .edges → EdgeWithin (headerIn request .vertices) word
+  edge-in (inl one) l =
       let there : i < length (wordsIn request) = omega (arith, words-one (headerIn request) one, counted-in _ _ w) in
-      let kept : AllKept (edgeLimits (headerIn request .vertices) word) = rw one at (w .words i there) in
-      let (_, (from, (to, (weight, _)))) = kept in
-      (from, to, either-way (weightOf word) (weight .0) (weight .1))
+      edge-within _ word [] (rw one at (w .words i there))
+  edge-in (inr three) l =
+      let there : i < length (wordsIn request) = omega (arith, words-three (headerIn request) three, counted-in _ _ w) in
+      edge-within _ word (orderLimits (getD (0 ∷ wordsIn request) i 0) word) (rw three at (w .words i there))
+
+  -- Method 3: the next one's to-vertex is not below it.
+  pub sorted-in : headerIn request .method ≡ 3 → suc i < headerIn request .edges → toField word ≤ toField (getD (wordsIn request) (suc i) 0)
+  sorted-in three l =
+      let there : suc i < length (wordsIn request) = omega (arith, words-three (headerIn request) three, counted-in _ _ w) in
+      let next = getD (wordsIn request) (suc i) 0 in
+      let kept : AllKept (edgeLimits (headerIn request .vertices) next (orderLimits word next)) = rw three at (w .words (suc i) there) in
+      let (_, (_, (_, (_, (order, _))))) = kept in order
 
   -- Method 2: word i is an entry's.
   pub entry-in : headerIn request .method ≡ 2 → i < headerIn request .vertices * headerIn request .vertices

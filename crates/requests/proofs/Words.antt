@@ -1,9 +1,8 @@
--- Which refusal a word meets, by the ways out of `check_weight`, `check_edge`, `check_entry` and `check_word`; and words in their order.
--- Rests on the machine's laws of signed numbers.
+-- Which refusal a word meets, by the ways out of `check_weight`, `check_edge`, `check_sorted`, `check_entry` and `check_word`; and words in
+-- their order. Rests on the machine's laws of signed numbers, the planner's Figured and answers' Unmet.
 use mathlib.Core.Path.{_≡_, refl, sym, ap, _∙_}
-use mathlib.Core.Logic.{⊎-elim}
 use mathlib.Core.Bool.{Bool, true, false, not}
-use mathlib.Core.List.{List}
+use mathlib.Core.List.{List, []}
 use mathlib.Core.Option.{none, some}
 use Prim.Native.Nat.{ℕ, suc, _+_, _-_, _^_, _<_, _≤_}
 use native.Mathlib.Omega.{arith}
@@ -15,15 +14,16 @@ use borrow.Author.Tests.{lt-ltb, le-ltb, le-leb, lt-leb, ltb-true, ltb-false, eq
 use Rattle.answers.specs.declared.Refusal.{Refusal}
 use Rattle.answers.specs.declared.Checked.{Checked}
 use Rattle.answers.specs.declared.Checked.the-variants.{Accepted, Refused}
-use Rattle.answers.specs.Refusal.{SpareBits, Weight, FromVertex, ToVertex, need, found, orElse}
+use Rattle.answers.specs.Refusal.{SpareBits, Weight, FromVertex, ToVertex, Unsorted, need, found, orElse}
 use Rattle.answers.proofs.Filled.{next}
+use Rattle.answers.proofs.Unmet.{first-append}
 use Rattle.machine.proofs.Tested.{back, kept}
 use Rattle.plans.specs.declared.Header.{Header}
 use Rattle.plans.specs.Limits.{mostWeight, leastWeight, noEdge}
 use Rattle.plans.specs.Plan as Plan
-use Rattle.plans.proofs.Headers.{method-is}
+use Rattle.planner.proofs.Figured.{method-three}
 use Rattle.requests.specs.Word.{fromField, toField, spareOfEdge, spareOfEntry, weightOf}
-use Rattle.requests.specs.Refusal.{inRange, edgeRefusal, entryRefusal, wordRefusal, wordsRefusal}
+use Rattle.requests.specs.Refusal.{inRange, edgeTests, edgeRefusal, orderTests, sortedRefusal, entryRefusal, wordRefusal, wordsRefusal}
 
 -- ---- the weight
 
@@ -80,6 +80,23 @@ module _ (n place w x : ℕ) (spare : x ≡ spareOfEdge w) where
       unfolding edgeRefusal
       edge-by-weight e s is = rw (← spare, eq-eqb x 0 no-spare, ← from, lt-ltb y n from-low, ← to, lt-ltb z n e, is)
 
+-- s is what the check of the edge answers, x and y are its to-vertex and that of the edge before.
+module _ (n place before w : ℕ) (s : Checked) (edge : found s ≡ edgeRefusal n place w) where
+  edge-first : sortedRefusal n place before w
+      ≡ orElse (edgeRefusal n place w) (need (leb (toField before) (toField w)) (Unsorted place) none)
+  unfolding sortedRefusal edgeRefusal
+  edge-first = first-append (edgeTests n place w []) (orderTests place before w)
+
+  pub edge-bad : (r : Refusal) → s ≡ Refused r → some r ≡ sortedRefusal n place before w
+  edge-bad r e = rw (edge-first, ← edge, e)
+
+  module _ (fine : s ≡ Accepted) (x y : ℕ) (to : x ≡ toField w) (to-before : y ≡ toField before) where
+    pub out-of-order : (r : Refusal) → r ≡ Unsorted place → x < y → some r ≡ sortedRefusal n place before w
+    out-of-order r told l = rw (edge-first, ← edge, fine, ← to, ← to-before, lt-leb y x l, told)
+
+    pub in-place : y ≤ x → none ≡ sortedRefusal n place before w
+    in-place l = rw (edge-first, ← edge, fine, ← to, ← to-before, le-leb y x l)
+
 -- x is an entry's spare bits.
 module _ (place w x : ℕ) (spare : x ≡ spareOfEntry w) where
   pub spare-entry : (r : Refusal) → r ≡ SpareBits place → (x ≡ 0 → ⊥) → some r ≡ entryRefusal place w
@@ -90,46 +107,50 @@ module _ (place w x : ℕ) (spare : x ≡ spareOfEntry w) where
   unfolding entryRefusal
   entry-by-weight e s is = rw (← spare, eq-eqb x 0 e, is)
 
--- By the method: s is what the check of an entry or of an edge answers.
-module _ (h : Header) (place w : ℕ) (s : Checked) where
-  pub an-entry : h .method ≡ 2 → found s ≡ entryRefusal place w → found s ≡ wordRefusal h place w
+-- By the method: s is what its check answers.
+module _ (h : Header) (place before w : ℕ) (s : Checked) where
+  pub an-edge : h .method ≡ 1 → found s ≡ edgeRefusal (h .vertices) place w → found s ≡ wordRefusal h place before w
+  unfolding wordRefusal
+  an-edge one is = rw (one, is)
+
+  pub an-entry : h .method ≡ 2 → found s ≡ entryRefusal place w → found s ≡ wordRefusal h place before w
   unfolding wordRefusal
   an-entry two is = rw (two, is)
 
-  pub an-edge : Plan.Accepted h → (h .method ≡ 2 → ⊥) → found s ≡ edgeRefusal (h .vertices) place w → found s ≡ wordRefusal h place w
+  pub a-sorted-edge : Plan.Accepted h → (h .method ≡ 1 → ⊥) → (h .method ≡ 2 → ⊥)
+      → found s ≡ sortedRefusal (h .vertices) place before w → found s ≡ wordRefusal h place before w
   unfolding wordRefusal
-  an-edge a other is =
-      ⊎-elim (λ (one : h .method ≡ 1). rw (one, is)) (λ (two : h .method ≡ 2). absurd (other two)) (method-is (h .method) (a .known))
+  a-sorted-edge a one two is = rw (method-three h a one two, is)
 
 -- ---- the words of a request in their order
 
--- Before word k of the request, which is at place k - 1: what is left meets the refusal that all of them meet.
-pub record Passed (h : Header) (request : List ℕ) (k : ℕ) : Type 0 where
+-- Before word k of the request, which is at place k - 1: what is left, after the word before it, meets the refusal that all of them meet.
+pub record Passed (h : Header) (request : List ℕ) (before k : ℕ) : Type 0 where
   pub begun : 0 < k
   pub within : k ≤ length request
-  pub rest : wordsRefusal h (k - 1) (drop k request) ≡ wordsRefusal h 0 (drop 1 request)
+  pub rest : wordsRefusal h (k - 1) before (drop k request) ≡ wordsRefusal h 0 0 (drop 1 request)
 
 module _ (h : Header) (request : List ℕ) where
-  pub start : 0 < length request → Passed h request 1
+  pub start : 0 < length request → Passed h request 0 1
   start l = record { begun = omega arith; within = l; rest = refl }
 
-  module _ (k : ℕ) (p : Passed h request k) where
+  module _ (before k : ℕ) (p : Passed h request before k) where
     module _ (l : k < length request) where
-      first : wordsRefusal h 0 (drop 1 request)
-          ≡ orElse (wordRefusal h (k - 1) (getD request k 0)) (wordsRefusal h (k + 1 - 1) (drop (k + 1) request))
+      first : wordsRefusal h 0 0 (drop 1 request)
+          ≡ orElse (wordRefusal h (k - 1) before (getD request k 0)) (wordsRefusal h (k + 1 - 1) (getD request k 0) (drop (k + 1) request))
       unfolding wordsRefusal
       first =
           let e : k + 1 - 1 ≡ suc (k - 1) = omega arith in
           sym (p .rest) ∙ rw (next request k 0 l, e)
 
       -- s is what the check of word k answers.
-      module _ (s : Checked) (is : found s ≡ wordRefusal h (k - 1) (getD request k 0)) where
-        pub refused : (r : Refusal) → s ≡ Refused r → some r ≡ wordsRefusal h 0 (drop 1 request)
+      module _ (s : Checked) (is : found s ≡ wordRefusal h (k - 1) before (getD request k 0)) where
+        pub refused : (r : Refusal) → s ≡ Refused r → some r ≡ wordsRefusal h 0 0 (drop 1 request)
         refused r e = rw (first, ← is, e)
 
-        pub again : s ≡ Accepted → Passed h request (k + 1)
+        pub again : s ≡ Accepted → Passed h request (getD request k 0) (k + 1)
         again e = record { begun = omega arith; within = omega arith; rest = rw (first, ← is, e) }
 
-    pub done : length request ≤ k → none ≡ wordsRefusal h 0 (drop 1 request)
+    pub done : length request ≤ k → none ≡ wordsRefusal h 0 0 (drop 1 request)
     unfolding wordsRefusal
     done l = rw (drop-of-length-le request l) at (p .rest)

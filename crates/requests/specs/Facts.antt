@@ -1,5 +1,5 @@
--- Document 01, "Request words" and "Who caused it", and ask 1 of document 02, as facts about literal requests and buffer lengths: limits at their
--- ends and one past them, and which of several refusals comes first. Rests on the definitions alone.
+-- Document 01, "Request words" and "Who caused it", and asks 1 and 3 of document 02, as facts about literal requests and buffer lengths: limits at
+-- their ends and one past them, and which of several refusals comes first. Rests on the definitions alone.
 use mathlib.Core.Path.{_≡_}
 use mathlib.Core.List.{List, [], _∷_}
 use mathlib.Core.Option.{Option, none, some}
@@ -33,6 +33,16 @@ edge w = tried (0x1000020000100000 ∷ w ∷ []) 17 48 2 2
 
 abbrev pub entry : (word : ℕ) → Told
 entry w = tried (0x2000010000000000 ∷ w ∷ []) 12 21 1 1
+
+-- Method 3, n = 2, of one edge, and n = 3, of two and of three: with buffers just long enough.
+abbrev pub sorted : (word : ℕ) → Told
+sorted w = tried (0x3000020000100000 ∷ w ∷ []) 28 55 2 2
+
+abbrev pub two : (first second : ℕ) → Told
+two w u = tried (0x3000030000200000 ∷ w ∷ u ∷ []) 45 154 3 3
+
+abbrev pub three : (first second third : ℕ) → Told
+three w u x = tried (0x3000030000300000 ∷ w ∷ u ∷ x ∷ []) 55 210 3 3
 
 pub record Facts : Type 0 where
   -- "from 8, to 8, spare 16 (zero), price 32": "13 when the from-yard is not below n, 14 when the to-yard is not below n", of 2 yards and of 32.
@@ -79,16 +89,25 @@ pub record Facts : Type 0 where
       × (tried (0x2000010000000000 ∷ 0 ∷ []) 12 21 0 1 ≡ byNumber 8)
       × (tried (0x2000010000000000 ∷ 0 ∷ []) 12 21 1 0 ≡ byNumber 8)
       × (tried (0x2000010000000000 ∷ 0 ∷ []) 13 22 2 2 ≡ noRefusal)
-  -- Method 1's "log is one word longer" than its plan, at the limits; method 2's is not.
-  pub logs : (logLengthOf (headerOf 0x100020000800001F) ≡ 1060837) × (logLengthOf (headerOf 0x200020000000001F) ≡ 44227)
+  pub sizes3 : (tried (0x3000020000100000 ∷ []) 28 55 2 2 ≡ byNumber 5)
+      × (tried (0x3000020000100000 ∷ 0 ∷ []) 27 55 2 2 ≡ byNumber 6)
+      × (tried (0x3000020000100000 ∷ 0 ∷ []) 28 54 2 2 ≡ byNumber 7)
+      × (tried (0x3000020000100000 ∷ 0 ∷ []) 28 55 1 2 ≡ byNumber 8)
+      × (tried (0x3000020000100000 ∷ 0 ∷ []) 28 55 2 1 ≡ byNumber 8)
+      × (tried (0x3000020000100000 ∷ 0 ∷ []) 29 56 3 3 ≡ noRefusal)
+  -- Methods 1's and 3's "log is one word longer" than the plan, at the limits; method 2's is not.
+  pub logs : (logLengthOf (headerOf 0x100020000800001F) ≡ 1060837)
+      × (logLengthOf (headerOf 0x200020000000001F) ≡ 44227)
+      × (logLengthOf (headerOf 0x300020000800001F) ≡ 437222)
   -- What a caller is told to lend: the most of each method; a second word is not looked at. And no header word, a source that is not below n.
   pub asked : (sizesTold (0x100020000800001F ∷ []) ≡ asking (lengths 488 1060837 32 32))
       × (sizesTold (0x200020000000001F ∷ 0 ∷ []) ≡ asking (lengths 1190 44227 32 32))
+      × (sizesTold (0x300020000800001F ∷ []) ≡ asking (lengths 8874 437222 32 32))
       × (sizesTold [] ≡ byNumber 1)
       × (sizesTold (0x1000200008000020 ∷ []) ≡ byNumber 4)
   -- "Order: 1 to 8 by number, then input words": requests that would meet two neighbours, or all, meet the lower.
   pub order : (tried [] 0 0 0 0 ≡ byNumber 1)
-      × (tried (0x3000210008100021 ∷ []) 0 0 0 0 ≡ byNumber 1)
+      × (tried (0x4000210008100021 ∷ []) 0 0 0 0 ≡ byNumber 1)
       × (tried (0x1000210008100021 ∷ []) 0 0 0 0 ≡ byNumber 2)
       × (tried (0x1000020008100002 ∷ []) 0 0 0 0 ≡ byNumber 3)
       × (tried (0x1000020000100002 ∷ []) 17 48 2 2 ≡ byNumber 4)
@@ -107,6 +126,29 @@ pub record Facts : Type 0 where
       × (edge 0x00020000000F4241 ≡ atPlace 14 0)
       × (edge 0x02020000000F4241 ≡ atPlace 13 0)
       × (edge 0x02020001000F4241 ≡ atPlace 10 0)
+  -- "Add this as method 3 with method 1's lane words and limits."
+  pub sorted-edge : (sorted 0x0101000000000000 ≡ noRefusal)
+      × (sorted 0x0000000100000000 ≡ atPlace 10 0)
+      × (sorted 0x0200000000000000 ≡ atPlace 13 0)
+      × (sorted 0x0002000000000000 ≡ atPlace 14 0)
+      × (sorted 0x00000000FFF0BDC0 ≡ noRefusal)
+      × (sorted 0x00000000FFF0BDBF ≡ atPlace 11 0)
+      × (sorted 0x00000000000F4241 ≡ atPlace 11 0)
+      × (sorted 0x02020001000F4241 ≡ atPlace 10 0)
+  -- "15 when a lane's to-yard is below the one before it, with the place of that lane": the one before, and not the first; an equal one is not
+  -- below; from-yards in any order; and in method 1 any order.
+  pub order3 : (two 0x0000000000000000 0x0002000000000000 ≡ noRefusal)
+      × (two 0x0201000000000000 0x0001000000000000 ≡ noRefusal)
+      × (two 0x0001000000000000 0x0000000000000000 ≡ atPlace 15 1)
+      × (two 0x0002000000000000 0x0001000000000000 ≡ atPlace 15 1)
+      × (three 0x0000000000000000 0x0002000000000000 0x0001000000000000 ≡ atPlace 15 2)
+      × (three 0x0001000000000000 0x0000000000000000 0x0000000100000000 ≡ atPlace 15 1)
+      × (tried (0x1000030000200000 ∷ 0x0002000000000000 ∷ 0x0001000000000000 ∷ []) 23 174 3 3 ≡ noRefusal)
+  -- "tested after its price": a lane out of order with each other fault.
+  pub order-last : (two 0x0002000000000000 0x0001000100000000 ≡ atPlace 10 1)
+      × (two 0x0002000000000000 0x0301000000000000 ≡ atPlace 13 1)
+      × (two 0x0002000000000000 0x00010000000F4241 ≡ atPlace 11 1)
+      × (two 0x0002000000000000 0x0003000000000000 ≡ atPlace 14 1)
   -- "10 before 11" in a table word.
   pub entry-faults : entry 0x00000001000F4241 ≡ atPlace 10 0
   -- "upward from place 0"; "places count from the word after the header".

@@ -1,5 +1,5 @@
--- Which refusal a request meets first: 1 to 8 by number, then its words upward (document 01, "Who caused it"), in each spare bits, ends and weight
--- (document 02, ask 1). Rests on headers, plans and refusals.
+-- Which refusal a request meets first: 1 to 8 by number, then its words upward (document 01, "Who caused it"), in each spare bits, ends, weight
+-- and order (document 02, asks 1 and 3). Rests on headers, plans and refusals.
 use mathlib.Core.Bool.{Bool, _&&_}
 use mathlib.Core.List.{List, [], _∷_}
 use mathlib.Core.Option.{Option, none, some}
@@ -9,7 +9,7 @@ use lib.IntN.{ℤ, pos}
 use lib.ListN.{length}
 use lib.Signed.{leZ}
 use Rattle.answers.specs.declared.Refusal.{Refusal}
-use Rattle.answers.specs.Refusal.{Method, Words, Cells, Log, Results, SpareBits, Weight, FromVertex, ToVertex, firstOf, orElse}
+use Rattle.answers.specs.Refusal.{Method, Words, Cells, Log, Results, SpareBits, Weight, FromVertex, ToVertex, Unsorted, firstOf, orElse}
 use Rattle.plans.specs.declared.Header.{Header}
 use Rattle.plans.specs.Limits.{byMethod, mostWeight, leastWeight, noEdge}
 use Rattle.plans.specs.Plan.{headerOf, wordCountOf, cellsOf, Kind, distances, parents, byKind, everyKind, resultsOf, verdictCell, published, lengthOf}
@@ -58,17 +58,24 @@ sizesRefusal h words lent = firstOf (sizesTests h words lent)
 unfoldable pub inRange : (least : ℤ) (w : ℕ) → Bool
 inRange least w = leZ least (weightOf w) && leZ (weightOf w) (pos mostWeight)
 
--- An edge (lane) of n vertices: its spare bits (10), the vertices that it leads from (13) and to (14), its weight (11).
-abbrev pub edgeTests : (n place w : ℕ) → List (Bool × Refusal)
-edgeTests n place w =
+-- An edge (lane) of n vertices: its spare bits (10), the vertices that it leads from (13) and to (14), its weight (11); then `more`.
+abbrev pub edgeTests : (n place w : ℕ) (more : List (Bool × Refusal)) → List (Bool × Refusal)
+edgeTests n place w more =
     (eqb (spareOfEdge w) 0, SpareBits place)
     ∷ (ltb (fromField w) n, FromVertex place)
     ∷ (ltb (toField w) n, ToVertex place)
     ∷ (inRange leastWeight w, Weight place)
-    ∷ []
+    ∷ more
 
 unfoldable pub edgeRefusal : (n place w : ℕ) → Option Refusal
-edgeRefusal n place w = firstOf (edgeTests n place w)
+edgeRefusal n place w = firstOf (edgeTests n place w [])
+
+-- Of edges sorted by to-vertex: one's is not below that of the one before it (15).
+abbrev pub orderTests : (place before w : ℕ) → List (Bool × Refusal)
+orderTests place before w = (leb (toField before) (toField w), Unsorted place) ∷ []
+
+unfoldable pub sortedRefusal : (n place before w : ℕ) → Option Refusal
+sortedRefusal n place before w = firstOf (edgeTests n place w (orderTests place before w))
 
 -- An entry of the table: its spare bits (10), its weight (11).
 abbrev pub entryTests : (place w : ℕ) → List (Bool × Refusal)
@@ -77,19 +84,21 @@ entryTests place w = (eqb (spareOfEntry w) 0, SpareBits place) ∷ (inRange noEd
 unfoldable pub entryRefusal : (place w : ℕ) → Option Refusal
 entryRefusal place w = firstOf (entryTests place w)
 
--- The word at a place.
-unfoldable pub wordRefusal : (h : Header) (place w : ℕ) → Option Refusal
-wordRefusal h place w = byMethod (h .method) none (edgeRefusal (h .vertices) place w ∷ entryRefusal place w ∷ [])
+-- The word at a place, and the one before it.
+unfoldable pub wordRefusal : (h : Header) (place before w : ℕ) → Option Refusal
+wordRefusal h place before w =
+    byMethod (h .method) none
+    (edgeRefusal (h .vertices) place w ∷ entryRefusal place w ∷ sortedRefusal (h .vertices) place before w ∷ [])
 
 -- The first refusal of words, the first of which is at `place`.
-unfoldable pub wordsRefusal : (h : Header) (place : ℕ) → List ℕ → Option Refusal
-wordsRefusal h place [] = none
-wordsRefusal h place (w ∷ ws) = orElse (wordRefusal h place w) (wordsRefusal h (suc place) ws)
+unfoldable pub wordsRefusal : (h : Header) (place before : ℕ) → List ℕ → Option Refusal
+wordsRefusal h place before [] = none
+wordsRefusal h place before (w ∷ ws) = orElse (wordRefusal h place before w) (wordsRefusal h (suc place) w ws)
 
 -- ---- the request
 
--- From the request and the lengths of the lent buffers.
+-- From the request and the lengths of the lent buffers. Before its first word stands 0, whose to-vertex is above none.
 unfoldable pub requestRefusal : (request : List ℕ) → (lent : Lengths) → Option Refusal
 requestRefusal [] lent = some Method
 requestRefusal (w ∷ ws) lent =
-    orElse (headerRefusal (headerOf w)) (orElse (sizesRefusal (headerOf w) (length ws) lent) (wordsRefusal (headerOf w) 0 ws))
+    orElse (headerRefusal (headerOf w)) (orElse (sizesRefusal (headerOf w) (length ws) lent) (wordsRefusal (headerOf w) 0 0 ws))

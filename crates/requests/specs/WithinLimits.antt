@@ -35,22 +35,36 @@ FirstBroken (l ∷ ls) number = ((number ≡ l .0) × ¬ l .1) ⊎ (l .1 × Firs
 
 -- ---- what is public of a request, and what is lent for it
 
+-- One of these numbers.
+abbrev pub OneOf : List ℕ → (k : ℕ) → Type 0
+OneOf [] k = ⊥
+OneOf (x ∷ xs) k = (k ≡ x) ⊎ OneOf xs k
+
 -- Of the header's numbers.
 abbrev pub headerLimits : (method n m source : ℕ) → List (ℕ × Type 0)
 headerLimits method n m source =
-    (1, (method ≡ 1) ⊎ (method ≡ 2))
+    (1, OneOf (1 ∷ 2 ∷ 3 ∷ []) method)
     ∷ (2, (1 ≤ n) × (n ≤ 32))
-    ∷ (3, m ≤ byMethod method 0 (128 ∷ 0 ∷ []))
+    ∷ (3, m ≤ byMethod method 0 (128 ∷ 0 ∷ 128 ∷ []))
     ∷ (4, source < n)
     ∷ []
 
--- Of how many words come after it, and of the lengths of the lent buffers: n distances and n parents, in either method.
+-- The words of the log, the published one among them.
+abbrev pub logFigure : (method n m : ℕ) → ℕ
+logFigure method n m =
+    byMethod method 0
+    ((3 * n + 5 + m * (8 * (n * n) + 3 * n - 1))
+    ∷ (n * n * n + 11 * (n * n) + 6 * n + 3)
+    ∷ (3 * (n * n) + 3 * n + 6 + m * (3 * (n * n) + 10 * n - 1))
+    ∷ [])
+
+-- Of how many words come after it, and of the lengths of the lent buffers: n distances and n parents, in every method.
 abbrev pub sizesLimits : (method n m words : ℕ) (lent : Lengths) → List (ℕ × Type 0)
 sizesLimits method n m words lent =
-    (5, words ≡ byMethod method 0 (m ∷ n * n ∷ []))
-    ∷ (6, byMethod method 0 ((3 * m + 3 * n + 8) ∷ (n * n + 5 * n + 6) ∷ []) ≤ lent .cells)
-    ∷ (7, byMethod method 0 ((3 * n + 5 + m * (8 * (n * n) + 3 * n - 1)) ∷ (n * n * n + 11 * (n * n) + 6 * n + 3) ∷ []) ≤ lent .log)
-    ∷ (8, (k : Kind) → byMethod method (λ k. 0) (byKind n n ∷ byKind n n ∷ []) k ≤ roomFor lent k)
+    (5, words ≡ byMethod method 0 (m ∷ n * n ∷ m ∷ []))
+    ∷ (6, byMethod method 0 ((3 * m + 3 * n + 8) ∷ (n * n + 5 * n + 6) ∷ (2 * (n * m) + 4 * m + 5 * n + 10) ∷ []) ≤ lent .cells)
+    ∷ (7, logFigure method n m ≤ lent .log)
+    ∷ (8, (k : Kind) → byMethod method (λ k. 0) (byKind n n ∷ byKind n n ∷ byKind n n ∷ []) k ≤ roomFor lent k)
     ∷ []
 
 -- 1 is told of a missing header word, too.
@@ -60,16 +74,20 @@ publicLimits request lent =
     ∷ (headerLimits (headerIn request .method) (headerIn request .vertices) (headerIn request .edges) (headerIn request .source)
     ++ sizesLimits (headerIn request .method) (headerIn request .vertices) (headerIn request .edges) (length (wordsIn request)) lent)
 
--- ---- the words after the header (document 02, ask 1)
+-- ---- the words after the header (document 02, asks 1 and 3)
 
--- Method 1, an edge (lane): its spare bits are zero, it leads from and to vertices below n, its weight (price) is from -1,000,000 to 1,000,000.
-abbrev pub edgeLimits : (n word : ℕ) → List (ℕ × Type 0)
-edgeLimits n word =
+-- An edge (lane): its spare bits are zero, it leads from and to vertices below n, its weight (price) is from -1,000,000 to 1,000,000; then `more`.
+abbrev pub edgeLimits : (n word : ℕ) (more : List (ℕ × Type 0)) → List (ℕ × Type 0)
+edgeLimits n word more =
     (10, spareOfEdge word ≡ 0)
     ∷ (13, fromField word < n)
     ∷ (14, toField word < n)
     ∷ (11, (negsuc 999999 ≤ℤ weightOf word) × (weightOf word ≤ℤ pos 1000000))
-    ∷ []
+    ∷ more
+
+-- Method 3 besides: its to-vertex is not below that of the edge before it.
+abbrev pub orderLimits : (before word : ℕ) → List (ℕ × Type 0)
+orderLimits before word = (15, toField before ≤ toField word) ∷ []
 
 -- Method 2, an entry of the table: its spare bits are zero, its weight is from 0 to 1,000,000, or -1 for no edge.
 abbrev pub entryLimits : (word : ℕ) → List (ℕ × Type 0)
@@ -78,12 +96,14 @@ entryLimits word =
     ∷ (11, (weightOf word ≡ negsuc 0) ⊎ ((pos 0 ≤ℤ weightOf word) × (weightOf word ≤ℤ pos 1000000)))
     ∷ []
 
-abbrev pub wordLimits : (method n word : ℕ) → List (ℕ × Type 0)
-wordLimits method n word = byMethod method [] (edgeLimits n word ∷ entryLimits word ∷ [])
+abbrev pub wordLimits : (method n before word : ℕ) → List (ℕ × Type 0)
+wordLimits method n before word =
+    byMethod method [] (edgeLimits n word [] ∷ entryLimits word ∷ edgeLimits n word (orderLimits before word) ∷ [])
 
--- Of a request's word at a place, counted from the word after the header.
+-- Of a request's word at a place, counted from the word after the header. Before the first word stands 0, whose to-vertex is above none.
 abbrev pub limitsAt : (request : List ℕ) (place : ℕ) → List (ℕ × Type 0)
-limitsAt request place = wordLimits (headerIn request .method) (headerIn request .vertices) (getD (wordsIn request) place 0)
+limitsAt request place =
+    wordLimits (headerIn request .method) (headerIn request .vertices) (getD (0 ∷ wordsIn request) place 0) (getD (wordsIn request) place 0)
 
 -- ---- the request
 

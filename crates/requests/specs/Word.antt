@@ -1,4 +1,4 @@
--- The words after a request's header (document 01, "Request words"), by their fields. In method 1 an edge (lane) a word: from 8 bits, to 8,
+-- The words after a request's header (document 01, "Request words"), by their fields. In methods 1 and 3 an edge (lane) a word: from 8 bits, to 8,
 -- spare 16, weight (price) 32; in method 2 an entry of the table a word: spare 32, weight 32. Rests on bit fields and two's complement.
 use Prim.Native.Nat.{ℕ}
 use lib.IntN.{ℤ}

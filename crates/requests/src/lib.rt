@@ -13,7 +13,7 @@ ghost use Rattle.answers.specs.Refusal.{Weight, need, found};
 ghost use Rattle.plans.specs.Plan.{Accepted};
 ghost use Rattle.planner.specs.Figures.{Figured};
 ghost use Rattle.requests.specs.Word as Word;
-ghost use Rattle.requests.specs.Refusal.{logLengthOf, askedOf, sizesRefusal, inRange, edgeRefusal, entryRefusal, wordRefusal, wordsRefusal, requestRefusal};
+ghost use Rattle.requests.specs.Refusal.{logLengthOf, askedOf, sizesRefusal, inRange, edgeRefusal, sortedRefusal, entryRefusal, wordRefusal, wordsRefusal, requestRefusal};
 ghost use Rattle.requests.specs.Sizes.{toldBySizes, sizesTold};
 
 // Lengths of a request's buffers, lent or asked for: cells, words of the log, and places of the results buffers, kind by kind.
@@ -135,6 +135,19 @@ fn check_edge(n: u64, place: usize, word: u64) -> Checked
     check_weight(-plans::MOST_WEIGHT, place, word)
 }
 
+// An edge of n vertices that comes after another: 10, 13, 14 and 11, then 15 where it leads to a lower vertex than that one.
+fn check_sorted(n: u64, place: usize, before: u64, word: u64) -> Checked
+    ensures { λ r. ⌜ found r ≡ sortedRefusal n place before word ⌝ }
+{
+    if let Checked::Refused(refusal) = check_edge(n, place, word) {
+        return Checked::Refused(refusal);
+    }
+    if fields::field(word, 48, 8) < fields::field(before, 48, 8) {
+        return Checked::Refused(Refusal::at(answers::UNSORTED, place));
+    }
+    Checked::Accepted
+}
+
 // An entry of the table: 10 and 11.
 fn check_entry(place: usize, word: u64) -> Checked
     ensures { λ r. ⌜ found r ≡ entryRefusal place word ⌝ }
@@ -145,26 +158,32 @@ fn check_entry(place: usize, word: u64) -> Checked
     Checked::Refused(Refusal::at(answers::SPARE_BITS, place))
 }
 
-fn check_word(h: Header, place: usize, word: u64) -> Checked
+// The word at a place, by the method; `before` is the one before it.
+fn check_word(h: Header, place: usize, before: u64, word: u64) -> Checked
     requires { ⌜ Accepted h ⌝ }
-    ensures { λ r. ⌜ found r ≡ wordRefusal h place word ⌝ }
+    ensures { λ r. ⌜ found r ≡ wordRefusal h place before word ⌝ }
 {
-    if h.method == 2 {
-        return check_entry(place, word);
+    let method = h.method;
+    match method {
+        1 => check_edge(h.vertices, place, word),
+        2 => check_entry(place, word),
+        _ => check_sorted(h.vertices, place, before, word),
     }
-    check_edge(h.vertices, place, word)
 }
 
-// The words upward from place 0; the header is before it.
+// The words upward from place 0; the header is before it. Before the first word stands 0, so that every word has one before it.
 fn check_words(h: Header, request: &[u64]) -> Checked
     requires { ⌜ Accepted h × (0 < length (now request)) ⌝ }
-    ensures { λ r. ⌜ found r ≡ wordsRefusal h 0 (drop 1 (now (request .entry))) ⌝ }
+    ensures { λ r. ⌜ found r ≡ wordsRefusal h 0 0 (drop 1 (now (request .entry))) ⌝ }
 {
+    let mut before: u64 = 0;
     let mut k: usize = 1;
     while k < request.len() {
-        if let Checked::Refused(refusal) = check_word(h, k - 1, request[k]) {
+        let word = request[k];
+        if let Checked::Refused(refusal) = check_word(h, k - 1, before, word) {
             return Checked::Refused(refusal);
         }
+        before = word;
         k += 1;
     }
     Checked::Accepted

@@ -1,7 +1,7 @@
 //! Method 1: Bellman-Ford over a list of edges.
 
 use super::word::{add, both, copy, equal, less, move_if, open, set, RIGHT, TO};
-use super::{log_rows, start, CACHED_WORDS};
+use super::{log_rows, log_vertices, start, CACHED_WORDS};
 use crate::reference::plan::{Public, FAR};
 
 pub fn run(public: &Public, cells: &mut [i64], log: &mut [u64]) -> u64 {
@@ -86,8 +86,7 @@ impl Plan {
             set(self.distances, FAR),
             set(self.parents, -1),
         ];
-        log_rows(vertices, first, [TO + RIGHT, TO, TO]);
-        vertices[3 * source as usize + 1] = set(self.distances + source, 0);
+        log_vertices(vertices, first, source);
         constants.copy_from_slice(&[set(self.far, FAR), set(self.verdict, 0)]);
     }
 

@@ -1,7 +1,7 @@
 //! Method 2: Dijkstra over a table of weights.
 
 use super::word::{add, both, copy, equal, less, move_if, set, LEFT, RIGHT, TO};
-use super::{log_rows, start};
+use super::{log_rows, log_vertices, start};
 use crate::reference::plan::{Public, FAR};
 
 pub fn run(public: &Public, cells: &mut [i64], log: &mut [u64]) -> u64 {
@@ -77,8 +77,7 @@ impl Plan {
             set(self.parents, -1),
             set(self.open, 1),
         ];
-        log_rows(vertices, first, [TO + RIGHT, TO, TO, TO]);
-        vertices[4 * source as usize + 1] = set(self.distances + source, 0);
+        log_vertices(vertices, first, source);
         constants.copy_from_slice(&[set(self.far, FAR), set(self.zero, 0)]);
     }
 

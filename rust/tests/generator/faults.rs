@@ -1,12 +1,13 @@
 //! Words after a header with just the faults that are asked for.
 
 use super::{Random, MOST};
-use crate::reference::plan::Public;
+use crate::reference::plan::{head, Public};
 
 /// The numbers of the faults that a word of each method can have, first those that are told first.
-pub fn numbers(method: u64) -> &'static [u64] {
+fn numbers(method: u64) -> &'static [u64] {
     match method {
         1 => &[10, 13, 14, 11],
+        3 => &[10, 13, 14, 11, 15],
         _ => &[10, 11],
     }
 }
@@ -21,25 +22,43 @@ pub fn combinations(method: u64) -> Vec<Vec<u64>> {
     all
 }
 
+/// The least head that an edge may have: in method 3 that of the edge before it,
+/// or the last vertex where that one leads to none.
+pub fn floor(public: &Public, request: &[u64], at: usize) -> u64 {
+    match public.method {
+        3 if at > 1 => head(request[at - 1]).min(public.n.saturating_sub(1)),
+        _ => 0,
+    }
+}
+
+/// Whether a word can have all these faults: a head below the floor is there.
+pub fn possible(faults: &[u64], floor: u64) -> bool {
+    let has = |number: u64| faults.contains(&number);
+    !has(15) || floor > 0 && !has(14)
+}
+
 /// A word of a header of 1 to 32 vertices with these faults and no other.
-pub fn word(random: &mut Random, public: &Public, faults: &[u64]) -> u64 {
+pub fn word(random: &mut Random, public: &Public, floor: u64, faults: &[u64]) -> u64 {
     let has = |number: u64| faults.contains(&number);
     let price = u64::from(price(random, public.method, has(11)) as u32);
     if public.method == 2 {
         return spare(random, 32, has(10)) << 32 | price;
     }
-    let from = vertex(random, public.n, has(13));
-    let to = vertex(random, public.n, has(14));
+    let from = vertex(random, 0, public.n, has(13));
+    let to = match has(15) {
+        true => random.below(floor),
+        false => vertex(random, floor, public.n, has(14)),
+    };
     from << 56 | to << 48 | spare(random, 16, has(10)) << 32 | price
 }
 
 /// Often the last vertex that is there, or the first that is not.
-fn vertex(random: &mut Random, n: u64, bad: bool) -> u64 {
+fn vertex(random: &mut Random, least: u64, n: u64, bad: bool) -> u64 {
     match (bad, random.one_in(3)) {
         (true, true) => n,
         (true, false) => n + random.below(256 - n),
         (false, true) => n - 1,
-        (false, false) => random.below(n),
+        (false, false) => least + random.below(n - least),
     }
 }
 

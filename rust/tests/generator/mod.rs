@@ -2,7 +2,7 @@
 
 pub mod faults;
 
-use crate::reference::plan::{pack, Public};
+use crate::reference::plan::{head, pack, Public};
 use crate::reference::{log_length, plan_words, Buffers};
 
 const MOST: i64 = 1_000_000;
@@ -56,17 +56,18 @@ pub fn edge_word(tail: u64, head: u64, weight: i64) -> u64 {
 pub fn small_request(random: &mut Random) -> Vec<u64> {
     let n = 1 + random.below(6);
     let m = random.below(13);
-    let method = 1 + random.below(2);
+    let method = 1 + random.below(3);
     request(random, method, n, m)
 }
 
 /// A valid request; method 2 has no use for `m`.
 pub fn request(random: &mut Random, method: u64, n: u64, m: u64) -> Vec<u64> {
     let source = random.below(n);
-    let edges = if method == 1 { m } else { 0 };
+    let edges = if method == 2 { 0 } else { m };
     let mut words = vec![pack(method, n, edges, source)];
     match method {
         1 => words.extend(edge_words(random, n, m)),
+        3 => words.extend(sorted_words(random, n, m)),
         _ => words.extend(table_words(random, n)),
     }
     words
@@ -85,6 +86,28 @@ fn edge_words(random: &mut Random, n: u64, m: u64) -> Vec<u64> {
         words.push(edge_word(tail, head, weight));
     }
     words
+}
+
+/// Edges by rising heads, in any order where they lead to the same vertex.
+fn sorted_words(random: &mut Random, n: u64, m: u64) -> Vec<u64> {
+    let mut words = edge_words(random, n, m);
+    if random.one_in(3) {
+        lead_to_few(random, n, &mut words);
+    }
+    words.sort_by_key(|&word| head(word));
+    words
+}
+
+/// Heads that rise now and then only, past others or not at all.
+fn lead_to_few(random: &mut Random, n: u64, words: &mut [u64]) {
+    let chances = 1 + random.below(12);
+    let mut head = random.below(n);
+    for word in words {
+        if random.one_in(chances) {
+            head += random.below(n - head);
+        }
+        *word = *word & !(0xFF << 48) | head << 48;
+    }
 }
 
 /// No edge crosses the wall, so that a part stays unreached.
@@ -223,7 +246,12 @@ fn damage_word(random: &mut Random, request: &mut [u64]) {
         return;
     }
     let at = 1 + random.index(request.len() - 1);
+    if random.one_in(4) {
+        let other = 1 + random.index(request.len() - 1);
+        return request.swap(at, other);
+    }
     let public = Public::read(request[0]);
+    let floor = faults::floor(&public, request, at);
     let word = &mut request[at];
     match random.below(8) {
         0 => *word ^= 1 << random.below(64),
@@ -232,15 +260,16 @@ fn damage_word(random: &mut Random, request: &mut [u64]) {
         3 => *word = *word & !(0xFF << 48) | random.below(40) << 48,
         4 => *word = *word >> 32 << 32 | (MOST as u64 + random.below(2)),
         5 => *word = *word >> 32 << 32 | u64::from((-MOST - random.between(0, 1)) as u32),
-        6 if (1..=32).contains(&public.n) => *word = faulty_word(random, &public),
+        6 if (1..=32).contains(&public.n) => *word = faulty_word(random, &public, floor),
         _ => *word = random.word(),
     }
 }
 
-fn faulty_word(random: &mut Random, public: &Public) -> u64 {
-    let numbers = faults::numbers(public.method).iter().copied();
-    let chosen: Vec<u64> = numbers.filter(|_| random.one_in(2)).collect();
-    faults::word(random, public, &chosen)
+fn faulty_word(random: &mut Random, public: &Public, floor: u64) -> u64 {
+    let mut possible = faults::combinations(public.method);
+    possible.retain(|faults| faults::possible(faults, floor));
+    let chosen = random.index(possible.len());
+    faults::word(random, public, floor, &possible[chosen])
 }
 
 /// A foreign plan for that many cells; every word can be carried out.

@@ -1,6 +1,6 @@
 //! Shortest walks without plans or cells, to judge the results themselves.
 
-use super::plan::Public;
+use super::plan::{head, Public};
 
 /// An edge: its tail, its head and its weight.
 #[derive(Clone, Copy)]
@@ -17,14 +17,22 @@ pub struct Graph {
     pub edges: Vec<Option<Edge>>,
 }
 
+/// What passes over all vertices at once leave.
+pub struct Passes {
+    pub distances: Vec<Option<i64>>,
+    pub parents: Vec<Option<usize>>,
+    /// Whether a vertex would gain in one pass more.
+    pub gains: bool,
+}
+
 impl Graph {
     pub fn read(request: &[u64]) -> Graph {
         let public = Public::read(request[0]);
         let n = public.n as usize;
         let words = request[1..].iter().enumerate();
         let edges = words.map(|(at, &word)| match public.method {
-            1 => Some(listed_edge(word)),
-            _ => table_edge(at, word, n),
+            2 => table_edge(at, word, n),
+            _ => Some(listed_edge(word)),
         });
         Graph {
             vertices: n,
@@ -65,6 +73,42 @@ impl Graph {
         changed
     }
 
+    /// Passes over all vertices at once, as many as there are vertices but one;
+    /// each vertex is offered totals from the distances of the pass before.
+    pub fn passes(&self) -> Passes {
+        let mut distances = vec![None; self.vertices];
+        let mut parents = vec![None; self.vertices];
+        distances[self.source] = Some(0);
+        for _ in 1..self.vertices {
+            let before = distances.clone();
+            for vertex in 0..self.vertices {
+                if let Some((total, edge)) = self.gain(&before, vertex) {
+                    distances[vertex] = Some(total);
+                    parents[vertex] = Some(edge);
+                }
+            }
+        }
+        let gains = (0..self.vertices).any(|v| self.gain(&distances, v).is_some());
+        Passes {
+            distances,
+            parents,
+            gains,
+        }
+    }
+
+    /// The least total offered to a vertex and the lowest edge that offers it,
+    /// if the vertex gains by it.
+    fn gain(&self, before: &[Option<i64>], vertex: usize) -> Option<(i64, usize)> {
+        let edges = self.edges.iter().enumerate();
+        let offers = edges.filter_map(|(number, edge)| {
+            let edge = edge.filter(|edge| edge.head == vertex)?;
+            before[edge.tail].map(|reached| (reached + edge.weight, number))
+        });
+        let old = before[vertex];
+        let least = offers.min();
+        least.filter(|&(total, _)| old.is_none_or(|old| total < old))
+    }
+
     /// Dijkstra, for weights that are not negative.
     pub fn dijkstra(&self) -> Vec<Option<i64>> {
         let mut distances = vec![None; self.vertices];
@@ -94,7 +138,7 @@ fn nearest(distances: &[Option<i64>], open: &[bool]) -> Option<(i64, usize)> {
 fn listed_edge(word: u64) -> Edge {
     Edge {
         tail: (word >> 56) as usize,
-        head: (word >> 48 & 0xFF) as usize,
+        head: head(word) as usize,
         weight: i64::from(word as u32 as i32),
     }
 }

@@ -3,7 +3,7 @@
 pub mod graph;
 pub mod plan;
 
-use plan::{emit, lay, split, Machine, Public};
+use plan::{emit, head, lay, split, Machine, Public};
 
 const PLACES: usize = 1 << 24;
 const MOST: i64 = 1_000_000;
@@ -61,7 +61,7 @@ fn header_fault(request: &[u64]) -> Option<u64> {
     };
     let public = Public::read(word);
     match public {
-        Public { method, .. } if method != 1 && method != 2 => Some(1),
+        Public { method, .. } if !(1..=3).contains(&method) => Some(1),
         Public { n, .. } if n == 0 || n > 32 => Some(2),
         Public { m, .. } if m > 128 => Some(3),
         Public { method: 2, m, .. } if m != 0 => Some(3),
@@ -94,9 +94,18 @@ fn word_fault(public: &Public, word: u64) -> Option<u64> {
     }
 }
 
+/// In method 3 no edge leads to a lower vertex than the edge before it.
+fn order_fault(public: &Public, words: &[u64], at: usize) -> Option<u64> {
+    let falls = at > 0 && head(words[at]) < head(words[at - 1]);
+    (public.method == 3 && falls).then_some(15)
+}
+
 fn words_fault(public: &Public, words: &[u64]) -> Option<Outcome> {
-    let mut faults = words.iter().enumerate();
-    faults.find_map(|(at, &word)| word_fault(public, word).map(|n| refused(n, Some(at))))
+    (0..words.len()).find_map(|at| {
+        let fault = word_fault(public, words[at]);
+        let number = fault.or_else(|| order_fault(public, words, at));
+        number.map(|number| refused(number, Some(at)))
+    })
 }
 
 fn lent_fault(public: &Public, log_needed: usize, lent: &Buffers) -> Option<u64> {
@@ -120,8 +129,8 @@ pub fn run(request: &[u64], lent: &mut Buffers) -> Outcome {
     let (header, words) = (request[0], &request[1..]);
     let public = Public::read(header);
     let expected = match public.method {
-        1 => public.m,
-        _ => public.n * public.n,
+        2 => public.n * public.n,
+        _ => public.m,
     };
     if words.len() as u64 != expected {
         return refused(5, None);
@@ -136,8 +145,8 @@ pub fn run(request: &[u64], lent: &mut Buffers) -> Outcome {
     lay(&public, words, &mut lent.cells);
     let (rounds, logged) = interpret(&plan, &mut lent.cells, &mut lent.log);
     let verdict = match public.method {
-        1 => lent.log[logged - 1],
-        _ => 0,
+        2 => 0,
+        _ => lent.log[logged - 1],
     };
     let values = [rounds, logged as u64, verdict, 0];
     if verdict != 0 {
@@ -154,8 +163,7 @@ fn interpret(plan: &[u64], cells: &mut [i64], log: &mut [u64]) -> (u64, usize) {
 }
 
 fn copy_results(public: &Public, lent: &mut Buffers) {
-    let (n, m) = (public.n as usize, public.m as usize);
-    let first = if public.method == 1 { 3 * m } else { n * n };
+    let (n, first) = (public.n as usize, public.distances() as usize);
     lent.distances[..n].copy_from_slice(&lent.cells[first..first + n]);
     lent.parents[..n].copy_from_slice(&lent.cells[first + n..first + 2 * n]);
 }

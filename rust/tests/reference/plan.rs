@@ -1,4 +1,4 @@
-//! The plans of both methods and how a word is carried out, from document 01.
+//! The plans of the methods and how a word is carried out, from the rules.
 
 /// Marks an unreached vertex.
 pub const FAR: i64 = 1 << 38;
@@ -30,9 +30,26 @@ impl Public {
         let (n, m) = (self.n, self.m);
         let count = match self.method {
             1 => 3 * m + 3 * n + 8,
+            3 => 2 * n * m + 4 * m + 5 * n + 10,
             _ => n * n + 5 * n + 6,
         };
         count as usize
+    }
+
+    /// The first cell of the edges' heads; method 3 keeps one before them.
+    pub fn heads(&self) -> u64 {
+        match self.method {
+            3 => self.m + 1,
+            _ => self.m,
+        }
+    }
+
+    /// The first cell of the distances, which the parents follow.
+    pub fn distances(&self) -> u64 {
+        match self.method {
+            2 => self.n * self.n,
+            _ => self.heads() + 2 * self.m,
+        }
     }
 }
 
@@ -52,17 +69,58 @@ pub fn pack(op: u64, d: u64, a: u64, b: u64) -> u64 {
     op << 60 | d << 40 | a << 20 | b
 }
 
+/// The vertex that an edge's word leads to.
+pub fn head(edge: u64) -> u64 {
+    edge >> 48 & 0xFF
+}
+
 /// Adds each operation of a plan to the words, in order.
 pub fn emit(public: &Public, words: &mut Vec<u64>) {
     let writer = Writer { words };
     match public.method {
         1 => writer.edges(public),
+        3 => writer.sorted_edges(public),
         _ => writer.table(public),
     }
 }
 
 struct Writer<'a> {
     words: &'a mut Vec<u64>,
+}
+
+/// Where method 3 keeps its lists: those that every method has; of each vertex
+/// the least offer and the edge that gives it; the scratch; of each edge
+/// whether it is the first to its head; and its tail and its head by vertices.
+struct Sorted {
+    d: u64,
+    p: u64,
+    y: u64,
+    least: u64,
+    giver: u64,
+    x: u64,
+    first: u64,
+    from: u64,
+    to: u64,
+}
+
+impl Sorted {
+    fn new(public: &Public) -> Sorted {
+        let (n, m) = (public.n, public.m);
+        let d = public.distances();
+        let x = d + 5 * n;
+        let from = x + 9 + m;
+        Sorted {
+            d,
+            p: d + n,
+            y: d + 2 * n,
+            least: d + 3 * n,
+            giver: d + 4 * n,
+            x,
+            first: x + 9,
+            from,
+            to: from + n * m,
+        }
+    }
 }
 
 impl Writer<'_> {
@@ -137,7 +195,12 @@ impl Writer<'_> {
             self.equal(x + 5, i, y + v);
             self.move_if(x + 1, x + 5, d + v);
         }
-        self.add(x + 2, x + 1, 2 * m + i);
+        self.total(x, 2 * m + i);
+    }
+
+    /// Adds a weight to the tail's distance, and notes whether that is one.
+    fn total(&mut self, x: u64, weight: u64) {
+        self.add(x + 2, x + 1, weight);
         self.less(x + 4, x + 1, x);
     }
 
@@ -145,6 +208,74 @@ impl Writer<'_> {
         self.set(y + v, v as i64);
         self.set(d + v, if v == public.source { 0 } else { FAR });
         self.set(p + v, -1);
+    }
+
+    fn sorted_edges(mut self, public: &Public) {
+        let (n, m) = (public.n, public.m);
+        let cells = Sorted::new(public);
+        let Sorted { d, p, y, x, .. } = cells;
+        for v in 0..n {
+            self.start_vertex(public, v, y, d, p);
+            self.set(cells.least + v, FAR);
+        }
+        self.set(x, FAR);
+        self.set(x + 8, 0);
+        self.set(m, -1);
+        for i in 0..m {
+            self.match_ends(public, &cells, i);
+        }
+        for pass in 0..n {
+            let check = pass == n - 1;
+            for i in 0..m {
+                self.offer(public, &cells, i, check);
+            }
+            for v in 0..n {
+                self.less(x + 5, cells.least + v, d + v);
+                if check {
+                    self.move_if(x + 8, x + 5, x + 5);
+                } else {
+                    self.move_if(d + v, x + 5, cells.least + v);
+                    self.move_if(p + v, x + 5, cells.giver + v);
+                }
+            }
+        }
+        self.open(x + 8);
+    }
+
+    /// Notes whether edge `i` has a higher head than the one before it, and
+    /// which vertices are its tail and its head.
+    fn match_ends(&mut self, public: &Public, cells: &Sorted, i: u64) {
+        let (n, head) = (public.n, public.heads() + i);
+        self.less(cells.first + i, head - 1, head);
+        for v in 0..n {
+            self.equal(cells.from + i * n + v, i, cells.y + v);
+            self.equal(cells.to + i * n + v, head, cells.y + v);
+        }
+    }
+
+    /// Takes what edge `i` offers into the least offer to its head so far.
+    fn offer(&mut self, public: &Public, cells: &Sorted, i: u64, check: bool) {
+        let (n, m, x) = (public.n, public.m, cells.x);
+        self.copy(x + 1, x);
+        for v in 0..n {
+            self.move_if(x + 1, cells.from + i * n + v, cells.d + v);
+        }
+        self.total(x, 2 * m + 1 + i);
+        self.move_if(x + 6, cells.first + i, x);
+        self.less(x + 5, x + 2, x + 6);
+        self.both(x + 5, x + 5, x + 4);
+        self.move_if(x + 6, x + 5, x + 2);
+        if !check {
+            self.set(x + 3, i as i64);
+            self.move_if(x + 7, x + 5, x + 3);
+        }
+        for v in 0..n {
+            let head = cells.to + i * n + v;
+            self.move_if(cells.least + v, head, x + 6);
+            if !check {
+                self.move_if(cells.giver + v, head, x + 7);
+            }
+        }
     }
 
     fn table(mut self, public: &Public) {
@@ -206,15 +337,15 @@ impl Writer<'_> {
 /// Lays a request's fields into the needed cells; the rest of these become 0.
 pub fn lay(public: &Public, words: &[u64], cells: &mut [i64]) {
     cells[..public.cells()].fill(0);
-    let m = public.m as usize;
+    let (m, heads) = (public.m as usize, public.heads() as usize);
     for (i, &word) in words.iter().enumerate() {
         let price = i64::from(word as u32 as i32);
-        if public.method == 1 {
-            cells[i] = (word >> 56) as i64;
-            cells[m + i] = (word >> 48 & 0xFF) as i64;
-            cells[2 * m + i] = price;
-        } else {
+        if public.method == 2 {
             cells[i] = if price == -1 { FAR } else { price };
+        } else {
+            cells[i] = (word >> 56) as i64;
+            cells[heads + i] = head(word) as i64;
+            cells[heads + m + i] = price;
         }
     }
 }

@@ -22,7 +22,7 @@ show-spec =
     (tie.spec
     (λ c. search needs)
     (λ c κs. search needs)
-    (λ c. counted {X = ℤ} 1190 (pos 0))
+    (λ c. counted {X = ℤ} 8874 (pos 0))
     (λ c. counted {X = ℕ} 497321 0)
     (λ c. counted {X = ℤ} 32 (pos 0))
     (λ c. counted {X = ℤ} 32 (pos 0))

@@ -1,6 +1,7 @@
 -- `planner::write_words` meets its contract: the words of the header's method. Rests on Figured.
 use borrow.Author.Needs.{needs}
-use Rattle.planner.proofs.Figured.{method-two}
+use native.Mathlib.Omega.{arith}
+use Rattle.planner.proofs.Figured.{method-three}
 use Rattle.planner.proofs.write_words.Statement.{statement}
 use Rattle.planner.proofs.write_words.Tie as tie
 
@@ -9,8 +10,11 @@ write-words-spec =
     tie.close
     (tie.spec
     (λ c κs. search needs)
+    (λ c κs. search needs)
+    (λ c κs. search (needs, method-three, arith))
     (λ c. search needs)
-    (λ c. c .before .before .write .ensures)
-    (λ c κs. search (needs, method-two))
     (λ c. search needs)
-    (λ c. c .before .before .write2 .ensures))
+    (λ c. search needs)
+    (λ c. search needs)
+    (λ c. search needs)
+    (λ c. search needs))

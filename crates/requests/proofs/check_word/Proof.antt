@@ -1,6 +1,7 @@
--- `requests::check_word` meets its contract: a law for each way out. Rests on Words.
+-- `requests::check_word` meets its contract: a law for each method. Rests on Words.
 use borrow.Author.Needs.{needs}
-use Rattle.requests.proofs.Words.{an-entry, an-edge}
+use native.Mathlib.Omega.{arith}
+use Rattle.requests.proofs.Words.{an-edge, an-entry, a-sorted-edge}
 use Rattle.requests.proofs.check_word.Statement.{statement}
 use Rattle.requests.proofs.check_word.Tie as tie
 
@@ -9,6 +10,8 @@ check-word-spec =
     tie.close
     (tie.spec
     (λ c κs. search needs)
-    (λ c. search an-entry)
     (λ c κs. search needs)
-    (λ c. search an-edge))
+    (λ c κs. search needs)
+    (λ c. search an-edge)
+    (λ c. search an-entry)
+    (λ c. search (a-sorted-edge, arith)))

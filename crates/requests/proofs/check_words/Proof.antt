@@ -8,10 +8,10 @@ use Rattle.requests.proofs.check_words.Statement.{statement}
 use Rattle.requests.proofs.check_words.Tie as tie
 
 abbrev Inv-loop : tie.InvT-loop
-Inv-loop h request k₀ k = Passed h request k
+Inv-loop h request before₀ k₀ before k = Passed h request before k
 
 abbrev μ-loop : tie.MeasureT-loop
-μ-loop h request k₀ k = length request - k
+μ-loop h request before₀ k₀ before k = length request - k
 
 loop-holds : tie.Need-loop-holds Inv-loop μ-loop
 loop-holds c = search start
@@ -41,9 +41,9 @@ check-words-spec =
     Inv-loop
     μ-loop
     loop-holds
+    (λ c. search needs)
+    (λ c. search needs)
     sub-check-word
-    (λ c. search needs)
-    (λ c. search needs)
     (λ c κs. search needs)
     (λ c. search needs)
     returns

@@ -1,0 +1,33 @@
+-- The table of specs/Sorted, by computing the definitions. Rests on those alone.
+use mathlib.Core.Path.{refl}
+use Rattle.fields.specs.Fields.{signedOf, bitsOf}
+use Rattle.machine.specs.Effect.{bit, wrapAdd, both, pick, perform}
+use Rattle.machine.specs.Word.{packed, packedSet, decodeAt, zerosKept, present, admissibleAt}
+use Rattle.machine.specs.Log.{carry, logged, cellsAfter, logFrom, logOf, withoutPublishedFrom, withoutPublished, roundsOf, sumOf, chargeOf}
+use Rattle.plans.specs.Blocks.{flat}
+use Rattle.plans.specs.Outline.{instructions}
+use Rattle.plans.specs.Method1 as Method1
+use Rattle.plans.specs.Method2 as Method2
+use Rattle.plans.specs.Method3 as Method3
+use Rattle.plans.specs.Plan.{instructionsOf, planOf, wordCountOf, cellsOf, resultsOf, lengthOf, verdictCell}
+use Rattle.planner.specs.Refusal.{headerRefusal}
+use Rattle.requests.specs.Word.{weightOf}
+use Rattle.requests.specs.Refusal.{logLengthOf, sizesRefusal, inRange, edgeRefusal, sortedRefusal, entryRefusal, wordRefusal, wordsRefusal, requestRefusal}
+use Rattle.intake.specs.Intake.{stripsOf, sourceOf, laid, copied, startingCells}
+use Rattle.engine.specs.Run.{verdictOf, outcome}
+use Rattle.facts.specs.Sorted.{Sorted}
+
+pub sorted : Sorted
+unfolding signedOf bitsOf bit wrapAdd both pick perform packed packedSet decodeAt zerosKept present admissibleAt carry logged cellsAfter logFrom logOf withoutPublishedFrom withoutPublished roundsOf sumOf chargeOf flat instructions Method1.plan Method2.plan Method3.plan instructionsOf planOf cellsOf resultsOf lengthOf headerRefusal weightOf wordCountOf logLengthOf verdictCell sizesRefusal inRange edgeRefusal sortedRefusal entryRefusal wordRefusal wordsRefusal requestRefusal stripsOf sourceOf laid startingCells verdictOf copied outcome
+sorted =
+    record {
+      smallest = record { answers = refl; dist = refl; parent = refl };
+      printed = record { answers = refl; dist = refl; parent = refl };
+      ties = record { answers = refl; dist = refl; parent = refl };
+      later = record { answers = refl; dist = refl; parent = refl };
+      segments = record { answers = refl; dist = refl; parent = refl };
+      synchronous = record { answers = refl; dist = refl; parent = refl };
+      in-place = refl;
+      elsewhere = record { answers = refl; dist = refl; parent = refl };
+      loops = (refl, refl);
+    }
