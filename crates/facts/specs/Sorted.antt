@@ -1,4 +1,4 @@
--- Document 02, ask 3: runs of method 3, about their outcomes. Each tells a wrong rule from the right one. Rests on engine.
+-- Document 02, ask 3: runs of method 3, about their outcomes. After the two smallest, each tells a wrong rule from the right one. Rests on engine.
 use mathlib.Core.Path.{_≡_}
 use mathlib.Core.List.{List, [], _∷_}
 use mathlib.Core.Option.{none}

@@ -219,6 +219,7 @@ fn word_of(case: Case, x: &mut u64, i: u64) -> u64
     requires { ⌜ (now x < 2 ^ 31) × (i < 1024) ⌝ }
     ensures { λ _. ⌜ now (x .exit) < 2 ^ 31 ⌝ }
 {
+    // A sorted case has 128 lanes.
     match case {
         Case::Chain => chain(x, i),
         Case::Circle => circle(x, i),
