@@ -15,7 +15,7 @@ enum {
     VUKSTAJA_NUMBER = 0,      /* 0: done; 12: a loss circle, after a run; else the refusal's number */
     VUKSTAJA_HAS_PLACE = 1,   /* 1 where there is a place (refusals 9, 10, 11, 13, 14 and 15), else 0 */
     VUKSTAJA_PLACE = 2,       /* the place, else 0 */
-    VUKSTAJA_ROUNDS = 3,      /* of a run */
+    VUKSTAJA_ROUNDS = 3,      /* of a run: the greatest depth of its words */
     VUKSTAJA_LOG_LENGTH = 4,  /* of a run */
     VUKSTAJA_VERDICT = 5,     /* of a request's run */
     VUKSTAJA_PLAN_LENGTH = 3, /* of a written plan */

@@ -40,9 +40,10 @@ it says. [k] is cell k.
 
 A field that should be zero and is not is named at the end of its line. How
 many cells there are is not known here, so addresses are not tested. After the
-words comes a line `tallies`, how many words of each op are carried out, and
-then `rounds N`, each tally times the rounds of its op, added up. A word that
-is no instruction would end the run, so only those before it count."""
+words comes a line `rounds N`, the greatest depth of a word that is carried out.
+A word's depth is the greatest of the cells that it reads, plus the rounds of
+its op, and the cell that it writes takes it; cells start at depth 0. A word
+that is no instruction would end the run, so only those before it count."""
 
 COMPARISON_FORMAT = """\
 `compare` prints `equal, N words`, exit status 0, or the first place at which A
@@ -72,26 +73,23 @@ class BadInput(Exception):
 
 
 class Operation(NamedTuple):
-    """A row of document 01's table of operations: rounds, how it is listed, and which of its fields have to be zero."""
+    """A row of the table of operations: rounds, the fields whose cells it reads, how it is listed, the fields that are zero."""
 
     rounds: int
+    reads: str
     form: str
     zeros: str = ""
 
-    @property
-    def name(self):
-        return self.form.split()[0]
-
 
 OPERATIONS = (
-    Operation(1, "SET [{d}] <- {number}"),
-    Operation(0, "COPY [{d}] <- [{a}]", zeros="b"),
-    Operation(0, "ADD [{d}] <- [{a}] + [{b}]"),
-    Operation(6, "LESS [{d}] <- [{a}] < [{b}]"),
-    Operation(6, "EQUAL [{d}] <- [{a}] = [{b}]"),
-    Operation(1, "BOTH [{d}] <- [{a}] and [{b}]"),
-    Operation(1, "MOVEIF [{d}] <- [{b}] if [{a}]"),
-    Operation(1, "OPEN [{a}]", zeros="db"),
+    Operation(1, "", "SET [{d}] <- {number}"),
+    Operation(0, "a", "COPY [{d}] <- [{a}]", zeros="b"),
+    Operation(0, "ab", "ADD [{d}] <- [{a}] + [{b}]"),
+    Operation(6, "ab", "LESS [{d}] <- [{a}] < [{b}]"),
+    Operation(6, "ab", "EQUAL [{d}] <- [{a}] = [{b}]"),
+    Operation(1, "ab", "BOTH [{d}] <- [{a}] and [{b}]"),
+    Operation(1, "abd", "MOVEIF [{d}] <- [{b}] if [{a}]"),
+    Operation(1, "a", "OPEN [{a}]", zeros="db"),
 )
 OPEN = 7
 
@@ -149,30 +147,29 @@ def word_text(word, role):
     return f"{word:016X}  {meaning}"
 
 
-def tallies_of(words, is_plan):
-    """How many words of each op are carried out; they end before a word that is no instruction."""
-    tallies = [0] * len(OPERATIONS)
+def rounds_of(words, is_plan):
+    """The greatest depth of a word that is carried out, 0 if there is none; they end before a word that is no instruction."""
+    depths, rounds = {}, 0
     for word, role in zip(words, roles(words, is_plan)):
-        if role == OPERATION:
-            op = op_of(word)
-            if op >= len(OPERATIONS):
-                break
-            tallies[op] += 1
-    return tallies
-
-
-def rounds_of(tallies):
-    """Each tally times the rounds of its op, added up."""
-    return sum(tally * operation.rounds for tally, operation in zip(tallies, OPERATIONS))
+        if role != OPERATION:
+            continue
+        op, d, a, b = split(word)
+        if op >= len(OPERATIONS):
+            break
+        fields = {"d": d, "a": a, "b": b}
+        read = (depths.get(fields[name], 0) for name in OPERATIONS[op].reads)
+        depth = max(read, default=0) + OPERATIONS[op].rounds
+        if op != OPEN:
+            depths[d] = depth
+        rounds = max(rounds, depth)
+    return rounds
 
 
 def print_listing(words, is_plan):
-    """Prints a line for each word, and then the tallies and the rounds."""
+    """Prints a line for each word, and then the rounds."""
     for place, (word, role) in enumerate(zip(words, roles(words, is_plan))):
         print(f"{place:7}  {word_text(word, role)}")
-    tallies = tallies_of(words, is_plan)
-    print("tallies", *(f"{operation.name} {tally}" for operation, tally in zip(OPERATIONS, tallies)))
-    print(f"rounds {rounds_of(tallies)}")
+    print(f"rounds {rounds_of(words, is_plan)}")
 
 
 def first_difference(first, second):

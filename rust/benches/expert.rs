@@ -26,6 +26,19 @@ pub fn run(request: &[u64], cells: &mut [i64], log: &mut [u64]) -> u64 {
         3 => sorted::run(&public, cells, &mut log[1..]),
         _ => table::run(&public, cells, &mut log[1..]),
     }
+    rounds(&public)
+}
+
+/// The rounds of every run with this public part, by the rules.
+pub fn rounds(public: &Public) -> u64 {
+    let (n, m) = (public.n, public.m);
+    match (public.method, m) {
+        (1, 0) => 2,
+        (1, _) => m * (n * n + 9 * n - 9) + n + 16,
+        (3, 0) => 8 * n + 1,
+        (3, _) => 9 * n * m + n * n + 8 * n + 7,
+        _ => 9 * n * n + 13 * n + 1,
+    }
 }
 
 /// Logs a row of words for each vertex: those of vertex 0, and after each row

@@ -33,7 +33,8 @@ const SIZES: [(u64, u64, u64); 12] = [
     (3, 32, 128),
 ];
 
-/// The baselines of a run test nothing of the request, and copy no results.
+/// The baselines of a run test nothing of the request, and copy no results. The
+/// rounds follow from the header, so they work out no depths.
 const RUN: Table = Table {
     title: "run: nanoseconds a word of the log",
     length: Task::log_length,
@@ -239,7 +240,7 @@ fn plan_then_interpret(task: &Task, bank: &mut Bank) -> u64 {
     emit(&public, &mut bank.plan);
     let mut machine = Machine::new(header, &mut bank.cells, &mut bank.words);
     machine.interpret(&bank.plan);
-    machine.rounds
+    expert::rounds(&public)
 }
 
 fn nested_loops(task: &Task, bank: &mut Bank) -> u64 {

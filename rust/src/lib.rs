@@ -129,6 +129,7 @@ pub struct Sizes {
 /// What a request's run tells beside its buffers.
 #[derive(Clone, Copy, Debug, PartialEq, Eq)]
 pub struct Report {
+    /// The greatest depth of any word carried out.
     pub rounds: u64,
     pub log_length: u64,
     pub verdict: u64,
@@ -137,6 +138,7 @@ pub struct Report {
 /// What the run of a foreign plan tells beside its buffers.
 #[derive(Clone, Copy, Debug, PartialEq, Eq)]
 pub struct PlanReport {
+    /// The greatest depth of any word carried out.
     pub rounds: u64,
     pub log_length: u64,
 }

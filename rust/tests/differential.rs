@@ -1,17 +1,22 @@
 //! Compares the library with an independent implementation of the rules.
 
+mod chains;
 mod generator;
 mod reference;
 
 use std::collections::HashSet;
+use std::thread;
 
-use generator::{buffers, damage, edge_word, faults, request, small_request, Random};
+use generator::{buffers, damage, edge_word, faults, foreign_plan, request, small_request, Random};
 use reference::graph::Graph;
 use reference::plan::{head, pack, Public, FAR};
 use reference::{Buffers, Outcome};
 use vukstaja::{Answer, Header, Method, Refusal, Routes};
 
 const SEED: u64 = 0x5EED_0101_2026_0001;
+const LESS: u64 = 3;
+/// The last cell that a word can name.
+const LAST_CELL: u64 = (1 << 20) - 1;
 
 fn refused(refusal: Refusal) -> Outcome {
     Outcome {
@@ -56,26 +61,16 @@ fn compare(request: &[u64], lent: Buffers) -> (Outcome, Buffers) {
     );
     assert!(ours == theirs, "buffers differ: {request:x?}");
     if matches!(outcome.number, 0 | 12) {
-        assert_eq!(outcome.values[0], rounds_by_tallies(&ours.log, &outcome));
+        judge_rounds(&outcome, &ours.log, ours.cells.len());
         judge(request, &outcome, &ours);
     }
     (outcome, ours)
 }
 
-/// The rounds as a host works them from the log that was left: its operations
-/// tallied by op, multiplied last.
-fn rounds_by_tallies(log: &[u64], outcome: &Outcome) -> u64 {
-    let mut tallies = [0; 8];
-    let mut words = log[..outcome.values[1] as usize].iter().skip(1);
-    while let Some(word) = words.next() {
-        let op = (word >> 60) as usize;
-        tallies[op] += 1;
-        if op == 7 {
-            words.next();
-        }
-    }
-    let [set, _copy, _add, less, equal, both, moveif, open] = tallies;
-    6 * (less + equal) + set + both + moveif + open
+/// Judges the rounds by the log that was left alone, on that many cells.
+fn judge_rounds(outcome: &Outcome, log: &[u64], cells: usize) {
+    let [rounds, length, ..] = outcome.values;
+    assert_eq!(rounds, chains::heaviest(&log[..length as usize], cells));
 }
 
 /// Judges verdict, distances and parents by the graph alone.
@@ -236,9 +231,9 @@ fn middle_requests() {
 fn full_size_requests() {
     let mut random = Random::new(SEED + 2);
     for (method, runs, words, rounds) in [
-        (1, 12, 1_060_837, 3_039_203),
-        (2, 40, 44_227, 57_506),
-        (3, 20, 437_222, 516_708),
+        (1, 12, 1_060_837, 166_832),
+        (2, 40, 44_227, 9_633),
+        (3, 20, 437_222, 38_151),
     ] {
         for _ in 0..runs {
             let request = request(&mut random, method, 32, 128);
@@ -353,7 +348,7 @@ fn compare_plan(plan: &[u64], cells: Vec<i64>, log: Vec<u64>) -> Outcome {
     assert!(our_cells == their_cells, "cells differ");
     assert!(our_log == their_log, "logs differ");
     if outcome.number == 0 {
-        assert_eq!(outcome.values[0], rounds_by_tallies(&our_log, &outcome));
+        judge_rounds(&outcome, &our_log, our_cells.len());
     }
     outcome
 }
@@ -364,7 +359,9 @@ fn foreign_plans() {
     let mut seen = [0; 13];
     for _ in 0..30_000 {
         let count = random.below(12);
-        let mut plan = generator::foreign_plan(&mut random, count);
+        let length = random.index(40);
+        let (ops, named) = (up_to(8), up_to(count.max(1)));
+        let mut plan = foreign_plan(&mut random, length, &ops, &named);
         for _ in 0..random.below(4).saturating_sub(1) {
             generator::damage_plan(&mut random, &mut plan, count);
         }
@@ -380,6 +377,10 @@ fn foreign_plans() {
     }
     println!("30000 foreign plans, by number: {seen:?}");
     assert!(seen[0] > 1000 && seen[7] > 1000 && seen[9] > 1000);
+}
+
+fn up_to(count: u64) -> Vec<u64> {
+    (0..count).collect()
 }
 
 /// Small numbers and the ends, so that comparisons go both ways.
@@ -403,15 +404,134 @@ fn empty_plan() {
     assert_eq!(compare_plan(&[], vec![], vec![]), ran(0, [0; 4]));
 }
 
+/// Every word leans on the one before it, so no run has more rounds than this.
 #[test]
 fn last_place_of_a_plan() {
     let places = 1 << 24;
-    let mut plan = vec![pack(1, 0, 0, 0); places + 1];
+    let mut plan = vec![pack(LESS, 0, 0, 0); places + 1];
     let outcome = compare_plan(&plan, vec![3], vec![0; 2]);
     assert_eq!((outcome.number, outcome.place), (9, Some(places as u64)));
     plan.pop();
     assert_eq!(compare_plan(&plan, vec![3], vec![0; 2]).number, 7);
-    assert_eq!(compare_plan(&plan, vec![3], vec![0; places]).number, 0);
+    let outcome = compare_plan(&plan, vec![3], vec![0; places]);
+    assert_eq!(outcome, ran(0, [100_663_290, places as u64, 0, 0]));
+}
+
+/// Runs a plan of that many words on random cells, enough for those named; its
+/// answer, cells and log are compared with the reference's, and its rounds with
+/// the heaviest chain of the words in its log. It has some of the ops alone,
+/// since a SET now and then would keep every chain short.
+fn compare_foreign(random: &mut Random, length: usize, named: &[u64]) -> Outcome {
+    let mut ops = up_to(8);
+    ops.retain(|&op| op == LESS || random.one_in(2));
+    let plan = foreign_plan(random, length, &ops, named);
+    let highest = named.iter().max().expect("a cell is named");
+    let count = *highest as usize + 1 + random.index(3);
+    let cells = plan_cells(random, count);
+    let log = random.words(reference::log_length(&plan));
+    compare_plan(&plan, cells, log)
+}
+
+/// Plans of every length. Where they name few cells the words lean on each other
+/// and chains are long, where they name many there are many chains.
+#[test]
+fn rounds_of_foreign_plans() {
+    let mut random = Random::new(SEED + 10);
+    let mut deepest = 0;
+    for turn in 0..4_000 {
+        let named = match turn % 40 {
+            0 => vec![LAST_CELL],
+            1 => {
+                let mut some: Vec<u64> = (0..1000).map(|_| random.below(1 << 20)).collect();
+                some.push(LAST_CELL);
+                some
+            }
+            2..=5 => up_to(1 + random.below(3000)),
+            _ => up_to(1 + random.below(8)),
+        };
+        let length = match turn / 40 % 4 {
+            0 => random.index(4),
+            1 => random.index(40),
+            2 => random.index(400),
+            _ => random.index(4000),
+        };
+        let outcome = compare_foreign(&mut random, length, &named);
+        deepest = deepest.max(outcome.values[0]);
+    }
+    println!("4000 foreign plans, {deepest} rounds at the most");
+    assert!(deepest > 10_000);
+}
+
+#[test]
+fn rounds_of_a_million_words() {
+    let mut random = Random::new(SEED + 11);
+    for count in [1, 3, 1000, LAST_CELL + 1] {
+        let outcome = compare_foreign(&mut random, 1_000_001, &up_to(count));
+        println!(
+            "a million words, {count} cells: {} rounds",
+            outcome.values[0]
+        );
+    }
+}
+
+/// What each operation reads and writes, by rounds worked out by hand. What the
+/// cells hold is nothing to them: neither whether a MOVEIF moves, nor an opened
+/// cell whose published word could be an operation.
+#[test]
+fn rounds_by_hand() {
+    let [set, copy, add, less, equal, both, move_if, open] =
+        [0, 1, 2, 3, 4, 5, 6, 7].map(|op| move |d, a, b| pack(op, d, a, b));
+    let plans = [
+        (0, vec![]),
+        (0, vec![copy(0, 0, 0), add(1, 0, 0)]),
+        // What does not lean on each other is done in the same rounds.
+        (6, vec![less(0, 1, 2), equal(3, 1, 2), set(1, 0, 5)]),
+        // Either operand counts, and the written cell where it is one.
+        (12, vec![less(0, 1, 2), equal(3, 0, 1)]),
+        (12, vec![less(0, 1, 2), equal(3, 1, 0)]),
+        (12, vec![less(0, 0, 0), less(0, 0, 0)]),
+        (7, vec![less(0, 1, 2), both(3, 1, 0)]),
+        (
+            12,
+            vec![less(0, 1, 2), add(3, 1, 0), copy(4, 3, 0), less(5, 4, 4)],
+        ),
+        // A written cell takes the new depth, even where it is a lesser one.
+        (7, vec![less(0, 1, 2), set(0, 0, 0), less(3, 0, 0)]),
+        (6, vec![less(0, 1, 2), copy(0, 1, 0), equal(3, 0, 0)]),
+        // The fields of SET are no addresses.
+        (7, vec![less(1, 2, 2), set(0, 1, 1), less(3, 0, 0)]),
+        // MOVEIF reads what it writes to, and the depth moves in any case.
+        (7, vec![less(0, 1, 2), move_if(0, 1, 2)]),
+        (7, vec![less(0, 1, 2), move_if(3, 0, 2)]),
+        (13, vec![less(0, 1, 2), move_if(3, 4, 0), less(5, 3, 3)]),
+        // OPEN reads and does not write, not even cell 0.
+        (7, vec![less(1, 2, 2), open(0, 1, 0)]),
+        (7, vec![less(1, 2, 2), open(0, 1, 0), less(3, 0, 0)]),
+        (6, vec![open(0, 0, 0), open(0, 0, 0), less(0, 1, 1)]),
+    ];
+    for (rounds, words) in plans {
+        let plan = [&[0], &words[..]].concat();
+        for cell in [0, less(0, 0, 0) as i64] {
+            let log = vec![0; reference::log_length(&plan)];
+            let outcome = compare_plan(&plan, vec![cell; 6], log);
+            assert_eq!(outcome.values[0], rounds, "{plan:x?}");
+        }
+    }
+}
+
+/// A plan runs on the stack that a thread has by default, and on a small one,
+/// whichever cells it names and however many words it has.
+#[test]
+fn plans_on_small_stacks() {
+    for stack in [2 << 20, 256 << 10] {
+        let thread = thread::Builder::new().stack_size(stack).spawn(|| {
+            let mut random = Random::new(SEED + 12);
+            compare_foreign(&mut random, 100, &[0, LAST_CELL]);
+            compare_foreign(&mut random, 1_000_001, &[0, 1, 2]);
+        });
+        let ended = thread.expect("a thread starts").join();
+        ended.expect("the plans run");
+    }
 }
 
 fn compare_written(header: &[u64], lent: Vec<u64>) -> Outcome {
@@ -444,9 +564,20 @@ fn written_plans() {
     }
 }
 
+/// The rounds that the rules state for a header.
+fn stated_rounds(method: Method, n: u64, m: u64) -> u64 {
+    match method {
+        Method::BellmanFord if m == 0 => 2,
+        Method::BellmanFord => m * (n * n + 9 * n - 9) + n + 16,
+        Method::Dijkstra => 9 * n * n + 13 * n + 1,
+        Method::SortedBellmanFord if m == 0 => 8 * n + 1,
+        Method::SortedBellmanFord => 9 * n * m + n * n + 8 * n + 7,
+    }
+}
+
 /// Every number of vertices and every number of edges occurs here.
 #[test]
-fn written_plans_have_the_stated_lengths() {
+fn written_plans_have_the_stated_lengths_and_rounds() {
     let edges = [Method::BellmanFord, Method::SortedBellmanFord];
     let pairs = (0..=128).flat_map(|m| edges.map(|method| (method, 1 + m % 32, m)));
     let tables = (1..=32).map(|n| (Method::Dijkstra, n, 0));
@@ -460,6 +591,8 @@ fn written_plans_have_the_stated_lengths() {
         let word = header.word();
         assert_eq!(Header::from_word(word), Some(header));
         let plan = reference::plan_words(word);
+        let rounds = reference::depth::rounds(&plan[1..], Public::read(word).cells());
+        assert_eq!(rounds, stated_rounds(method, n.into(), m.into()));
         assert_eq!(compare_sizes(&[word]).number, 0);
         let outcome = compare_written(&[word], vec![7; plan.len() + 2]);
         assert_eq!(outcome.values[0], plan.len() as u64);
@@ -552,24 +685,30 @@ fn requests_at_the_edges() {
         0x7000000000A00000,
         0,
     ];
-    assert_eq!((first.report.rounds, &first.log[..]), (6, &row_1[..]));
+    assert_eq!((first.report.rounds, &first.log[..]), (2, &row_1[..]));
     let printed = [0x1000_0200_0010_0000, 0x0001_0000_FFFF_FFFB];
     assert_eq!(
         solved(&printed),
-        (112, vec![Some(0), Some(-5)], vec![None, Some(0)])
+        (31, vec![Some(0), Some(-5)], vec![None, Some(0)])
     );
+    let alone = (18, vec![Some(0)], vec![None]);
     assert_eq!(number(&[lone, edge_word(0, 0, -1)]), (12, None));
-    assert_eq!(solved(&[lone, edge_word(0, 0, 0)]).1, [Some(0)]);
+    assert_eq!(solved(&[lone, edge_word(0, 0, 0)]), alone);
     let twins = [pack(1, 2, 2, 0), edge_word(0, 1, 4), edge_word(0, 1, 4)];
-    assert_eq!(solved(&twins).1, [Some(0), Some(4)]);
-    assert_eq!(solved(&twins).2, [None, Some(0)]);
+    assert_eq!(
+        solved(&twins),
+        (44, vec![Some(0), Some(4)], vec![None, Some(0)])
+    );
     let apart = [pack(1, 3, 2, 0), edge_word(1, 2, -1), edge_word(2, 1, -1)];
-    assert_eq!(solved(&apart).1, [Some(0), None, None]);
+    assert_eq!(
+        solved(&apart),
+        (73, vec![Some(0), None, None], vec![None, None, None])
+    );
     let empty = [pack(2, 2, 0, 0), absent, absent, absent, absent];
-    assert_eq!(solved(&empty), (116, vec![Some(0), None], vec![None, None]));
+    assert_eq!(solved(&empty), (63, vec![Some(0), None], vec![None, None]));
     let single = vukstaja::solve(&[pack(2, 1, 0, 0), absent]).expect("row 7 runs");
-    assert_eq!((single.report.rounds, single.log.len()), (32, 21));
-    assert_eq!(solved(&[lone, edge_word(0, 0, 1_000_000)]).1, [Some(0)]);
+    assert_eq!((single.report.rounds, single.log.len()), (23, 21));
+    assert_eq!(solved(&[lone, edge_word(0, 0, 1_000_000)]), alone);
     assert_eq!(number(&[lone, edge_word(0, 0, 1_000_001)]), (11, Some(0)));
     assert_eq!(number(&[pack(1, 33, 0, 0)]), (2, None));
     assert_eq!(number(&[pack(1, 1, 129, 0)]), (3, None));
@@ -604,7 +743,7 @@ fn requests_of_method_3() {
     let apart = [edge_word(2, 1, -1), edge_word(1, 2, -1)];
     assert_eq!(solved_edges(3, &apart).0, [Some(0), None, None]);
     let empty = vukstaja::solve(&[pack(3, 1, 0, 0)]).expect("no edges run");
-    assert_eq!((empty.report.rounds, empty.log.len()), (15, 12));
+    assert_eq!((empty.report.rounds, empty.log.len()), (9, 12));
     let lone = pack(3, 1, 1, 0);
     assert_eq!(number(&[lone, edge_word(0, 0, -1)]), (12, None));
     assert_eq!(number(&[lone, edge_word(0, 0, 1_000_001)]), (11, Some(0)));

@@ -481,12 +481,41 @@ def carry_out(cells, op, d, a, b):
         cells[d] = cells[b]
 
 
+def cells_read(op, d, a, b):
+    """The cells that an operation reads; MOVEIF may leave [d] as it is."""
+    if op == SET:
+        return ()
+    if op in (COPY, OPEN):
+        return (a,)
+    return (a, b, d) if op == MOVEIF else (a, b)
+
+
+def word_depth(depths, op, d, a, b):
+    """The depth of one operation, which the cell that it writes takes.
+
+    `depths` are those of the cells written so far; any other cell's is 0.
+    """
+    read = (depths.get(cell, 0) for cell in cells_read(op, d, a, b))
+    depth = max(read, default=0) + ROUNDS[op]
+    if op != OPEN:
+        depths[d] = depth
+    return depth
+
+
+def rounds_of(operations):
+    """The greatest depth of any of the operations, 0 if there is none."""
+    depths = {}
+    return max((word_depth(depths, *operation) for operation in operations),
+               default=0)
+
+
 def carry_out_plan(plan, cells, log):
-    """Carry out a plan's words on the cells, write the log, count rounds.
+    """Carry out a plan's words on the cells, write the log, find the rounds.
 
     The header is logged and not carried out.  Each OPEN is followed in the
     log by the published cell.
     """
+    depths = {}
     rounds = 0
     length = 0
     for place, word in enumerate(plan):
@@ -496,7 +525,7 @@ def carry_out_plan(plan, cells, log):
             continue
         op, d, a, b = split_fields(word, OPERATION_WIDTHS)
         carry_out(cells, op, d, a, b)
-        rounds += ROUNDS[op]
+        rounds = max(rounds, word_depth(depths, op, d, a, b))
         if op == OPEN:
             log[length] = to_unsigned(cells[a], CELL_BITS)
             length += 1

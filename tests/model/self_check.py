@@ -3,19 +3,22 @@
 import random
 from collections import Counter
 
+import chains
 import figures
 import model
 import network
 import spelled
 import walks
-from model import (ADD, COPY, FAR, OPEN, SET, Header, Lane, Lent, PlanRan,
-                   PlanWritten, Refusal, RequestRan, TableEntry)
+from model import (ADD, BOTH, COPY, EQUAL, FAR, LESS, MOVEIF, OPEN, SET,
+                   Header, Lane, Lent, PlanRan, PlanWritten, Refusal,
+                   RequestRan, TableEntry)
 from network import Network
 
 SEED = 20240117
 FIGURES_LOG_WORDS = 500_000
 RANDOM_PAIRS = 150
 RANDOM_PLANS = 150
+RANDOM_DEPTHS = 500
 RANDOM_TIES = 60
 RANDOM_WALKS = 100
 LEAST_OF_A_SHAPE = 10
@@ -27,14 +30,13 @@ PLAN_OF_ONE_YARD = [int(word, 16) for word in (
     "1000010000000000 0000020000000000 0000000000000000 000001FFFFFFFFFF"
     " 0000034000000000 00000A0000000000 7000000000A00000").split()]
 PRINTED_REQUEST = bytes.fromhex("100002000010000000010000FFFFFFFB")
-PRINTED_LINES = ["1 2 1 0 112 0", "0 0 -", "1 -5 0"]
+PRINTED_LINES = ["1 2 1 0 31 0", "0 0 -", "1 -5 0"]
 
 # The rounds that the rules state, by method.
 ROUNDS_STATED = {
-    1: lambda n, m: 3 * n + 3 + m * (23 * n * n + 6 * n - 1),
-    2: lambda n, m: n ** 3 + 24 * n * n + 5 * n + 2,
-    3: lambda n, m: (8 * n * n + 3 * n + 4
-                     + m * (3 * n * n + 28 * n + 4)),
+    1: lambda n, m: m * (n * n + 9 * n - 9) + n + 16 if m else 2,
+    2: lambda n, m: 9 * n * n + 13 * n + 1,
+    3: lambda n, m: 9 * n * m + n * n + 8 * n + 7 if m else 8 * n + 1,
 }
 
 
@@ -78,7 +80,7 @@ def check_edge_plan(checks):
     checks.equal(model.plan_words(Header(1, 1, 0, 0)), PLAN_OF_ONE_YARD,
                  "row 1, plan")
     checks.equal(finished.log, PLAN_OF_ONE_YARD + [0], "row 1, log")
-    checks.equal(finished.answer, RequestRan(6, 8, 0), "row 1, answer")
+    checks.equal(finished.answer, RequestRan(2, 8, 0), "row 1, answer")
 
 
 def check_edge_printed(checks):
@@ -87,7 +89,7 @@ def check_edge_printed(checks):
     words = [int.from_bytes(PRINTED_REQUEST[k:k + 8], "big") for k in (0, 8)]
     finished = network.run(printed)
     checks.equal(network.request_words(printed), words, "row 2, words")
-    checks.equal(finished.answer, RequestRan(112, 48, 0), "row 2, answer")
+    checks.equal(finished.answer, RequestRan(31, 48, 0), "row 2, answer")
     checks.equal(finished.distances, [0, -5], "row 2, distances")
     checks.equal(finished.parents, [-1, 0], "row 2, parents")
     checks.equal(model.desk_lines(PRINTED_REQUEST), PRINTED_LINES,
@@ -96,30 +98,32 @@ def check_edge_printed(checks):
 
 def check_edge_method_1(checks):
     """Rows 3, 4 and 5."""
-    checks.equal(network.run(self_lane(-1)).answer.verdict, 1, "row 3, -1")
-    checks.equal(network.run(self_lane(0)).answer.verdict, 0, "row 3, 0")
+    for price, verdict in ((-1, 1), (0, 0)):
+        checks.equal(network.run(self_lane(price)).answer,
+                     RequestRan(18, 18, verdict), f"row 3, {price}")
     tie = network.run(Network(1, 2, 0, [(0, 1, 4), (0, 1, 4)]))
-    checks.equal((tie.answer.verdict, tie.distances, tie.parents),
-                 (0, [0, 4], [-1, 0]), "row 4")
+    checks.equal((tie.answer, tie.distances, tie.parents),
+                 (RequestRan(44, 85, 0), [0, 4], [-1, 0]), "row 4")
     apart = network.run(Network(1, 3, 0, [(1, 2, -1), (2, 1, -1)]))
-    checks.equal((apart.answer.verdict, apart.distances, apart.parents),
-                 (0, [0, FAR, FAR], [-1, -1, -1]), "row 5")
+    checks.equal((apart.answer, apart.distances, apart.parents),
+                 (RequestRan(73, 174, 0), [0, FAR, FAR], [-1, -1, -1]),
+                 "row 5")
 
 
 def check_edge_method_2(checks):
     """Rows 6 and 7."""
     empty = network.run(Network(2, 2, 0, []))
     checks.equal((empty.answer.rounds, empty.distances, empty.parents),
-                 (116, [0, FAR], [-1, -1]), "row 6")
+                 (63, [0, FAR], [-1, -1]), "row 6")
     checks.equal(model.plan_length(Header(2, 1, 0, 0)), 21, "row 7, words")
     checks.equal(network.run(Network(2, 1, 0, [])).answer,
-                 RequestRan(32, 21, 0), "row 7, answer")
+                 RequestRan(23, 21, 0), "row 7, answer")
 
 
 def check_edge_limits(checks):
     """Rows 8 and 9."""
-    checks.equal(network.run(self_lane(1_000_000)).answer.verdict, 0,
-                 "row 8, 1,000,000")
+    checks.equal(network.run(self_lane(1_000_000)).answer,
+                 RequestRan(18, 18, 0), "row 8, 1,000,000")
     checks.equal(network.run(self_lane(1_000_001)).answer, Refusal(11, 0),
                  "row 8, 1,000,001")
     for header, number in ((Header(1, 33, 0, 0), 2), (Header(2, 33, 0, 0), 2),
@@ -162,10 +166,10 @@ def check_passes(checks):
     before = network.run(Network(1, 3, 0, [(0, 1, 1), (1, 2, 1), (0, 2, 2)]))
     checks.equal(before.parents, [-1, 0, 1], "the same lanes in method 1")
     checks.equal(network.run(Network(3, 1, 0, [])).answer,
-                 RequestRan(15, 12, 0), "method 3, one yard and no lane")
+                 RequestRan(9, 12, 0), "method 3, one yard and no lane")
     for price, verdict in ((-1, 1), (0, 0), (1_000_000, 0)):
         finished = network.run(Network(3, 1, 0, [(0, 0, price)]))
-        checks.equal(finished.answer, RequestRan(50, 24, verdict),
+        checks.equal(finished.answer, RequestRan(25, 24, verdict),
                      f"method 3, a lane of {price} to its own yard")
 
 
@@ -190,27 +194,30 @@ def check_fields(checks):
 
 
 def check_counted(checks, header):
-    """Length, rounds and addresses of one plan, counted."""
+    """Length, rounds and addresses of one plan, from its words."""
     operations = list(model.plan_operations(header))
     total = model.cells_of(header).total
     words = model.plan_words(header)
     checks.equal(len(operations) + 1, model.plan_length(header),
                  f"length of {header}")
-    checks.equal(sum(model.ROUNDS[op] for op, _, _, _ in operations),
-                 rounds_by_formula(header), f"rounds of {header}")
+    checks.equal(model.rounds_of(operations), rounds_by_formula(header),
+                 f"rounds of {header}")
     checks.equal(model.foreign_refusal(words, total, 2 * len(words)), None,
                  f"plan of {header} as a foreign plan")
 
 
 def check_lengths(checks):
-    """Lengths and rounds by formula at the limits, by counting below."""
+    """Lengths and rounds by formula, and from the words of plans."""
     for header, *stated in (
-            (Header(1, 32, 128, 0), 1_060_836, 1_060_837, 488, 3_039_203),
-            (Header(2, 32, 0, 0), 44_227, 44_227, model.DESK_CELLS, 57_506),
-            (Header(3, 32, 128, 0), 437_221, 437_222, 8_874, 516_708)):
+            (Header(1, 32, 128, 0), 1_060_836, 1_060_837, 488, 166_832),
+            (Header(2, 32, 0, 0), 44_227, 44_227, model.DESK_CELLS, 9_633),
+            (Header(3, 32, 128, 0), 437_221, 437_222, 8_874, 38_151)):
         checks.equal([model.plan_length(header), model.log_length(header),
                       model.cells_of(header).total, rounds_by_formula(header)],
                      stated, f"figures of {header}")
+    largest = Header(1, 32, 128, 0)
+    checks.equal(model.rounds_of(model.plan_operations(largest)),
+                 rounds_by_formula(largest), f"rounds of {largest}")
     check_counted(checks, Header(2, 32, 0, 0))
     check_counted(checks, Header(3, 32, 128, 31))
     for n in range(1, 9):
@@ -218,6 +225,41 @@ def check_lengths(checks):
         for m in range(5):
             check_counted(checks, Header(1, n, m, n - 1))
             check_counted(checks, Header(3, n, m, n - 1))
+
+
+def check_depths(checks):
+    """What each operation reads and writes, by depths worked out by hand."""
+    for rounds, *operations in (
+            (0,),
+            (0, (COPY, 0, 0, 0), (ADD, 1, 0, 0)),
+            (6, (LESS, 0, 1, 2)),
+            # What comes from nowhere deeper is done in the same rounds.
+            (6, (LESS, 0, 1, 2), (EQUAL, 3, 1, 2), (SET, 1, 0, 5)),
+            # Both operands count, and the written cell where it is one.
+            (12, (LESS, 0, 1, 2), (EQUAL, 3, 0, 1)),
+            (12, (LESS, 0, 1, 2), (EQUAL, 3, 1, 0)),
+            (12, (LESS, 0, 0, 0), (LESS, 0, 0, 0)),
+            (7, (LESS, 0, 1, 2), (BOTH, 3, 1, 0)),
+            (12, (LESS, 0, 1, 2), (ADD, 3, 1, 0), (COPY, 4, 3, 0),
+             (LESS, 5, 4, 4)),
+            # A written cell takes the new depth, even where it is a lesser one.
+            (7, (LESS, 0, 1, 2), (SET, 0, 0, 0), (LESS, 3, 0, 0)),
+            (6, (LESS, 0, 1, 2), (COPY, 0, 1, 0), (EQUAL, 3, 0, 0)),
+            # The fields of SET are no addresses.
+            (7, (LESS, 1, 2, 2), (SET, 0, 1, 1), (LESS, 3, 0, 0)),
+            # MOVEIF reads [d] too, and moves depths where [a] is 0.
+            (7, (LESS, 0, 1, 2), (MOVEIF, 0, 1, 2)),
+            (7, (LESS, 0, 1, 2), (MOVEIF, 3, 0, 2)),
+            (13, (LESS, 0, 1, 2), (MOVEIF, 3, 4, 0), (LESS, 5, 3, 3)),
+            # OPEN reads [a] and writes no cell, not even cell 0.
+            (7, (LESS, 1, 2, 2), (OPEN, 0, 1, 0)),
+            (7, (LESS, 1, 2, 2), (OPEN, 0, 1, 0), (LESS, 3, 0, 0))):
+        cells, log = [0] * 6, [0] * 9
+        plan = [0, *map(model.join_operation, operations)]
+        checks.equal(model.run_foreign(plan, cells, log).rounds, rounds,
+                     f"rounds of {operations}")
+        checks.equal(chains.heaviest_chain(operations), rounds,
+                     f"heaviest chain of {operations}")
 
 
 def check_spelled_plans(checks):
@@ -362,17 +404,17 @@ def check_desk(checks):
                      f"desk, {request}")
     table = network.request_words(Network(2, 2, 1, [(0, 1, 3)]))
     data = b"".join(word.to_bytes(8, "big") for word in table)
-    checks.equal(model.desk_lines(data), ["2 2 0 1 116 0", "0 - -", "1 0 -"],
+    checks.equal(model.desk_lines(data), ["2 2 0 1 63 0", "0 - -", "1 0 -"],
                  "desk, method 2")
 
 
 def check_desk_method_3(checks):
     """The desk's lines for method 3: its bank has too few cells for some."""
-    for n, m, line in ((2, 128, "3 2 128 0 9258 0"),
-                       (3, 116, "3 3 116 0 13425 0"), (3, 117, "refused 6"),
-                       (4, 93, "3 4 93 0 15396 0"), (4, 94, "refused 7"),
+    for n, m, line in ((2, 128, "3 2 128 0 2331 0"),
+                       (3, 116, "3 3 116 0 3172 0"), (3, 117, "refused 6"),
+                       (4, 93, "3 4 93 0 3403 0"), (4, 94, "refused 7"),
                        (4, 96, "refused 7"), (4, 97, "refused 6"),
-                       (32, 1, "3 32 1 0 12264 0"), (32, 2, "refused 7"),
+                       (32, 1, "3 32 1 0 1575 0"), (32, 2, "refused 7"),
                        (32, 15, "refused 7"), (32, 16, "refused 6")):
         data = model.join_header(Header(3, n, m, 0)).to_bytes(8, "big")
         checks.equal(model.desk_lines(data + bytes(8 * m))[0], line,
@@ -450,11 +492,10 @@ def check_foreign_order(checks):
     checks.equal(log, [header], "log of a header alone")
 
 
-def random_operation(rng, cell_count):
-    """An operation the runner takes on so many cells."""
-    op = rng.randrange(8)
+def random_operation(rng, op, cell_count):
+    """An operation of this op that the runner takes on so many cells."""
     d, a, b = (rng.randrange(cell_count) for _ in range(3))
-    if op == SET:
+    if op == SET and rng.random() < 0.5:
         return op, d, rng.randrange(1 << 20), rng.randrange(1 << 20)
     if op == COPY:
         return op, d, a, 0
@@ -475,22 +516,43 @@ def without_published(log):
     return kept
 
 
+def charge_of(log):
+    """The charge of a log, from its own words."""
+    operations = without_published(log)[1:]
+    return model.rounds_of(map(model.split_operation, operations))
+
+
+def check_depths_random(checks, rng):
+    """Random operations on few cells, so that chains are long, and on many.
+
+    They have some of the ops alone: a SET now and then keeps chains short.
+    """
+    count = rng.choice((1, 2, 3, 8, 40, 1 << 20))
+    length = rng.choice((0, 1, 2, 3, 20, 200))
+    ops = rng.sample(range(8), rng.randint(1, 8))
+    operations = [random_operation(rng, rng.choice(ops), count)
+                  for _ in range(length)]
+    checks.equal(model.rounds_of(operations), chains.heaviest_chain(operations),
+                 f"rounds of {operations}")
+
+
 def check_foreign_random(checks, rng):
     """Random foreign plans: log, rounds and replay."""
     count = rng.randrange(1, 6)
     start = [rng.choice((0, 1, -1, MOST_CELL, -MOST_CELL - 1,
                          rng.randrange(-9, 10))) for _ in range(count)]
-    operations = [random_operation(rng, count)
+    operations = [random_operation(rng, rng.randrange(8), count)
                   for _ in range(rng.randrange(1, 30))]
     plan = [rng.getrandbits(64), *map(model.join_operation, operations)]
     cells, log = list(start), [LENT] * 99
     ran = model.run_foreign(plan, cells, log)
-    checks.equal(ran.rounds, sum(model.ROUNDS[op] for op, *_ in operations),
+    checks.equal(ran.rounds, chains.heaviest_chain(operations),
                  "rounds of a foreign plan")
     checks.equal(log[ran.log_length:], [LENT] * (99 - ran.log_length),
                  "log beyond a foreign plan")
     log = log[:ran.log_length]
     checks.equal(without_published(log), plan, "log without published words")
+    checks.equal(charge_of(log), ran.rounds, "charge of a foreign plan's log")
     checks.holds(model.replay(log, start), "replay goes to the end")
     checks.equal(start, cells, "cells of a replayed foreign plan")
 
@@ -599,6 +661,7 @@ def check_random_run(checks, case):
                  f"walks of {case}")
     checks.equal(without_published(log), model.plan_words(header),
                  f"log of {case}")
+    checks.equal(charge_of(log), finished.answer.rounds, f"charge of {case}")
     bank = list(finished.start)
     checks.holds(model.replay(log, bank), f"replay of {case} to the end")
     checks.equal(bank, finished.cells, f"cells left by {case}")
@@ -632,6 +695,8 @@ def check_random(checks):
                      f"both verdicts are common in method {method}")
     for _ in range(RANDOM_PLANS):
         check_foreign_random(checks, rng)
+    for _ in range(RANDOM_DEPTHS):
+        check_depths_random(checks, rng)
 
 
 def check_random_shapes(checks):
@@ -667,7 +732,7 @@ def main():
     checks = Checks()
     for check in (check_edge_plan, check_edge_printed, check_edge_method_1,
                   check_edge_method_2, check_edge_limits, check_edge_cells,
-                  check_passes, check_fields, check_lengths,
+                  check_passes, check_fields, check_lengths, check_depths,
                   check_spelled_plans, check_figures_lanes, check_methods,
                   check_order_lanes, check_sorted, check_order_method_2,
                   check_desk, check_desk_method_3, check_plan_writer,

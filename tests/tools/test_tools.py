@@ -483,7 +483,11 @@ class Listing(WithFolder):
 
     def meanings(self, words, *options):
         """The listing of an edge request's header and these words, without the header's line, places and hexadecimal digits."""
-        return [line[27:] for line in self.listing(EDGE_1_PLAN[:1] + words, *options)[1:-2]]
+        return [line[27:] for line in self.listing(EDGE_1_PLAN[:1] + words, *options)[1:-1]]
+
+    def rounds(self, words, *options):
+        """What the listing of a header and these words ends with."""
+        return self.listing(EDGE_1_PLAN[:1] + words, *options)[-1]
 
     def test_edge_1_log(self):
         expected = [
@@ -495,14 +499,13 @@ class Listing(WithFolder):
             "      5  00000A0000000000  SET [10] <- 0",
             "      6  7000000000A00000  OPEN [10]",
             "      7  0000000000000000  published 0",
-            "tallies SET 5 COPY 0 ADD 0 LESS 0 EQUAL 0 BOTH 0 MOVEIF 0 OPEN 1",
-            "rounds 6",
+            "rounds 2",
         ]
         self.assertEqual(self.listing(EDGE_1_LOG), expected)
 
     def test_edge_1_plan(self):
         self.assertEqual(plan_of_method_1(1, 0, 0), EDGE_1_PLAN)
-        self.assertEqual(self.listing(EDGE_1_PLAN, "--plan"), self.listing(EDGE_1_LOG)[:7] + self.listing(EDGE_1_LOG)[-2:])
+        self.assertEqual(self.listing(EDGE_1_PLAN, "--plan"), self.listing(EDGE_1_LOG)[:7] + self.listing(EDGE_1_LOG)[-1:])
 
     def test_log_of_method_3(self):
         expected = [
@@ -518,8 +521,7 @@ class Listing(WithFolder):
             "      9  60000E0000B0000B  MOVEIF [14] <- [11] if [11]",
             "     10  7000000000E00000  OPEN [14]",
             "     11  0000000000000000  published 0",
-            "tallies SET 7 COPY 0 ADD 0 LESS 1 EQUAL 0 BOTH 0 MOVEIF 1 OPEN 1",
-            "rounds 15",
+            "rounds 9",
         ]
         self.assertEqual(self.listing(plan_of_method_3(1, 0, 0) + [0]), expected)
 
@@ -538,13 +540,30 @@ class Listing(WithFolder):
             "published -5",
         ]
         self.assertEqual(self.meanings(words), expected)
-        tallies = "tallies SET 1 COPY 1 ADD 1 LESS 1 EQUAL 1 BOTH 1 MOVEIF 1 OPEN 1"
-        self.assertEqual(self.listing(EDGE_1_PLAN[:1] + words)[-2:], [tallies, "rounds 16"])
+        self.assertEqual(self.rounds(words), "rounds 6")
 
-    def test_each_op_has_its_tally(self):
-        words = [word(op) for op in range(OPEN) for _ in range(op)] + [word(OPEN), word(SET)] * 7
-        tallies = "tallies SET 0 COPY 1 ADD 2 LESS 3 EQUAL 4 BOTH 5 MOVEIF 6 OPEN 7"
-        self.assertEqual(self.listing(EDGE_1_PLAN[:1] + words)[-2:], [tallies, "rounds 60"])
+    def test_rounds_of_each_op(self):
+        for op, rounds in zip(range(8), (1, 0, 0, 6, 6, 1, 1, 1)):
+            self.assertEqual(self.rounds([word(op)]), f"rounds {rounds}")
+
+    def test_rounds_are_a_depth(self):
+        deep = word(LESS, 3, 0, 0)
+        reads = {SET: "", COPY: "a", ADD: "ab", LESS: "ab", EQUAL: "ab", BOTH: "ab", MOVEIF: "abd", OPEN: "a"}
+        for (op, read), field in product(reads.items(), "abd"):
+            words = [deep, word(op, *(3 * (name == field) for name in "dab"))]
+            alone = {LESS: 6, EQUAL: 6, COPY: 0, ADD: 0}.get(op, 1)
+            rounds = 6 + alone if field in read else 6
+            self.assertEqual(self.rounds(words, "--plan"), f"rounds {rounds}")
+        # A written cell takes the depth of the last word that wrote it; OPEN writes none.
+        self.assertEqual(self.rounds([deep, word(LESS, 3, 3, 3)]), "rounds 12")
+        self.assertEqual(self.rounds([deep, word(SET, 3), word(LESS, 3, 3, 3)]), "rounds 7")
+        self.assertEqual(self.rounds([deep, word(OPEN, 0, 3), word(LESS, 4, 0, 0)], "--plan"), "rounds 7")
+        self.assertEqual(self.rounds([deep, word(MOVEIF, 4, 5, 3), word(EQUAL, 4, 4, 4)]), "rounds 13")
+
+    def test_published_words_have_no_depth(self):
+        words = [word(OPEN), word(LESS, 0, 0, 0), word(BOTH, 1, 0, 0)]
+        self.assertEqual(self.rounds(words), "rounds 1")
+        self.assertEqual(self.rounds(words, "--plan"), "rounds 7")
 
     def test_edge_10_least_number_of_set(self):
         self.assertEqual(self.meanings([word(SET, 0, 524_288, 0)]), ["SET [0] <- -549755813888"])
@@ -561,7 +580,7 @@ class Listing(WithFolder):
         words = [word(LESS, 1, 2, 3), word(9, 1), word(OPEN, 0, 4), 0]
         expected = ["LESS [1] <- [2] < [3]", "no instruction: op 9 is over 7", "OPEN [4]", "published 0"]
         self.assertEqual(self.meanings(words), expected)
-        self.assertEqual(self.listing(EDGE_1_PLAN[:1] + words)[-1], "rounds 6")
+        self.assertEqual(self.rounds(words), "rounds 6")
 
     def test_fields_that_should_be_zero(self):
         words = [word(COPY, 1, 2, 3), word(OPEN, 1, 2, 3)]
@@ -569,29 +588,28 @@ class Listing(WithFolder):
         self.assertEqual(self.meanings(words), expected)
 
     def test_header_alone(self):
-        tallies = "tallies SET 0 COPY 0 ADD 0 LESS 0 EQUAL 0 BOTH 0 MOVEIF 0 OPEN 0"
-        self.assertEqual(self.listing(EDGE_1_LOG[:1]), [self.listing(EDGE_1_LOG)[0], tallies, "rounds 0"])
+        self.assertEqual(self.listing(EDGE_1_LOG[:1]), [self.listing(EDGE_1_LOG)[0], "rounds 0"])
 
     def test_rounds_and_lengths(self):
         figures = [
-            (plan_of_method_1(2, 1, 0), 47, 112),  # edge 2, the printed request
-            (plan_of_method_1(1, 1, 0), 17, 34),  # edge 3, by the formulas of method 1
-            (plan_of_method_2(2, 0), 67, 116),  # edge 6
-            (plan_of_method_2(1, 0), 21, 32),  # edge 7
-            (plan_of_method_3(1, 0, 0), 11, 15),  # by the formulas of method 3, as the next two
-            (plan_of_method_3(2, 1, 0), 54, 114),
-            (plan_of_method_3(3, 3, 2), 209, 430),
+            (plan_of_method_1(2, 1, 0), 47, 31),  # edge 2, the printed request
+            (plan_of_method_1(1, 1, 0), 17, 18),  # edge 3, by the formulas of method 1
+            (plan_of_method_2(2, 0), 67, 63),  # edge 6
+            (plan_of_method_2(1, 0), 21, 23),  # edge 7
+            (plan_of_method_3(1, 0, 0), 11, 9),  # by the formulas of method 3, as the next two
+            (plan_of_method_3(2, 1, 0), 54, 45),
+            (plan_of_method_3(3, 3, 2), 209, 121),
         ]
         for plan, length, rounds in figures:
             lines = self.listing(plan, "--plan")
-            self.assertEqual((len(lines) - 2, lines[-1]), (length, f"rounds {rounds}"))
+            self.assertEqual((len(lines) - 1, lines[-1]), (length, f"rounds {rounds}"))
 
     def test_largest_rounds(self):
         for plan, figures in (
-            (plan_of_method_2(32, 0), (44_227, 57_506)),
-            (plan_of_method_3(32, 128, 0), (437_221, 516_708)),
+            (plan_of_method_2(32, 0), (44_227, 9_633)),
+            (plan_of_method_3(32, 128, 0), (437_221, 38_151)),
         ):
-            self.assertEqual((len(plan), log.rounds_of(log.tallies_of(plan, is_plan=True))), figures)
+            self.assertEqual((len(plan), log.rounds_of(plan, is_plan=True)), figures)
 
 
 class Comparison(WithFolder):
@@ -688,7 +706,6 @@ class LogMessages(WithFolder):
         expected = [
             "      0  3030303230303032  header method=3 yards=12336 lanes=205571 source=12338",
             "      1  3030303030303041  LESS [12336] <- [197379] < [12353]",
-            "tallies SET 0 COPY 0 ADD 0 LESS 1 EQUAL 0 BOTH 0 MOVEIF 0 OPEN 0",
             "rounds 6",
         ]
         self.assertEqual(run(log, "list", "--bytes", path), (0, "\n".join(expected) + "\n", ""))

@@ -1,3 +1,4 @@
-pub mod Facts
-pub mod Weighed
-pub mod Weighing
+pub mod Words
+pub mod Deepening
+pub mod Fitting
+pub mod Marks

@@ -1,2 +1,4 @@
-pub mod Tally
-pub mod Facts
+pub mod Word
+pub mod Table
+pub mod Place
+pub mod Worked

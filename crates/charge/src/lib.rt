@@ -1,35 +1,50 @@
-// The charge of a run: its words tallied by op, and each tally multiplied by the rounds of its op, last of all.
-// Rests on machine.
+// The charge of operation words: their greatest depth (document 02, ask 4). The cells' depths are in a local table where the words keep to the
+// cells of one and are worth clearing it, else in the lent cells, whose numbers wait in the lent log and are put back.
+// Rests on machine and fields.
+mod place;
+mod table;
+mod word;
+
 ghost use mathlib.Core.Path.{_≡_};
-ghost use Prim.Native.Nat.{_+_, _^_, _<_};
-ghost use lib.ListN.{getD};
-ghost use Rattle.machine.specs.Word.{opField};
-ghost use Rattle.machine.specs.Log.{rounds};
-ghost use Rattle.charge.specs.Tally.{tallied, weighed};
+ghost use Prim.Native.Nat.{_^_, _≤_};
+ghost use lib.ListN.{length};
+ghost use Rattle.machine.specs.Log.{Admitted};
+ghost use Rattle.charge.specs.Table.{enough};
+ghost use Rattle.charge.specs.Worked.{WorkedOut};
 
-// The rounds of each op.
-const ROUNDS: [u64; 8] = [1, 0, 0, 6, 6, 1, 1, 1];
+// From so many words on, clearing the larger table takes less time than it saves.
+const SHORT: usize = 256;
 
-// A word counted, in the tally of its op.
-pub fn tally(tallies: &mut [u64; 8], word: u64)
-    requires { ⌜ (opField word < 8) × (getD (now tallies) (opField word) 0 + 1 < 2 ^ 64) ⌝ }
-    ensures { λ _. ⌜ now (tallies .exit) ≡ tallied word (now (tallies .entry)) ⌝ }
+// Whether every word keeps to the first `count` cells.
+fn fits(words: &[u64], count: usize) -> bool
+    ensures { λ r. ⌜ r ≡ enough count (now (words .entry)) ⌝ }
 {
-    let op = machine::split(word).op as usize;
-    tallies[op] += 1;
+    let mut k: usize = 0;
+    while k < words.len() {
+        if !machine::admits(words[k], count) {
+            return false;
+        }
+        k += 1;
+    }
+    true
 }
 
-// What eight tallies come to: each times the rounds of its op, added up.
-pub fn rounds_of(tallies: [u64; 8]) -> u64
-    requires { ⌜ weighed tallies rounds < 2 ^ 64 ⌝ }
-    ensures { λ r. ⌜ r ≡ weighed tallies rounds ⌝ }
+// The rounds of operation words that the cells admit.
+pub fn depth_of(words: &[u64], cells: &mut [i64], log: &mut [u64]) -> u64
+    requires { ⌜ Admitted (length (now cells)) (now words) × (length (now words) ≤ 2 ^ 24) × (length (now words) ≤ length (now log)) ⌝ }
+    ensures { λ r. ⌜ WorkedOut (now (words .entry)) (now (cells .entry)) (now (log .entry)) r (now (cells .exit)) (now (log .exit)) ⌝ }
 {
-    let table = ROUNDS;
-    let mut sum: u64 = 0;
-    let mut op: usize = 0;
-    while op < 8 {
-        sum += tallies[op] * table[op];
-        op += 1;
+    if cells.len() <= table::FEW {
+        return table::among_few(words);
     }
-    sum
+    if words.len() < SHORT {
+        return place::greatest(words, cells, log);
+    }
+    if cells.len() <= table::MANY {
+        return table::among_many(words);
+    }
+    if fits(words, table::MANY) {
+        return table::among_many(words);
+    }
+    place::greatest(words, cells, log)
 }

@@ -8,7 +8,8 @@ use Rattle.fields.specs.Fields.{signedOf, bitsOf}
 use Rattle.text.specs.Text.{leading, decimal, signed, hexadecimal, lineOf}
 use Rattle.machine.specs.Effect.{bit, wrapAdd, both, pick, perform}
 use Rattle.machine.specs.Word.{packed, packedSet, decodeAt, zerosKept, present, admissibleAt}
-use Rattle.machine.specs.Log.{carry, logged, cellsAfter, logFrom, logOf, withoutPublishedFrom, withoutPublished, roundsOf, sumOf, chargeOf}
+use Rattle.machine.specs.Log.{carry, logged, cellsAfter, logFrom, logOf, withoutPublishedFrom, withoutPublished}
+use Rattle.machine.specs.Depth.{greatestFrom, decodeAll, depthOf, chargeOf}
 use Rattle.plans.specs.Blocks.{flat}
 use Rattle.plans.specs.Outline.{instructions}
 use Rattle.plans.specs.Method1 as Method1
@@ -25,20 +26,20 @@ use Rattle.console.specs.Bytes.{joinedFrom, wholeWords, handedOver, requ
 use Rattle.console.specs.Desk.{deskText, hostText}
 
 pub record Example : Type 0 where
-  -- Document 01's printed request: three lines. `1 2 1 0 112 0`, `0 0 -`, `1 -5 0`
+  -- Document 01's printed request: three lines. `1 2 1 0 31 0`, `0 0 -`, `1 -5 0`
   pub results : deskText (0x10 ∷ 0 ∷ 2 ∷ 0 ∷ 0 ∷ 0x10 ∷ 0 ∷ 0 ∷ 0 ∷ 1 ∷ 0 ∷ 0 ∷ 0xFF ∷ 0xFF ∷ 0xFF ∷ 0xFB ∷ [])
-      ≡ 49 ∷ 32 ∷ 50 ∷ 32 ∷ 49 ∷ 32 ∷ 48 ∷ 32 ∷ 49 ∷ 49 ∷ 50 ∷ 32 ∷ 48 ∷ 10 ∷ 48 ∷ 32 ∷ 48 ∷ 32 ∷ 45 ∷ 10 ∷ 49 ∷ 32
+      ≡ 49 ∷ 32 ∷ 50 ∷ 32 ∷ 49 ∷ 32 ∷ 48 ∷ 32 ∷ 51 ∷ 49 ∷ 32 ∷ 48 ∷ 10 ∷ 48 ∷ 32 ∷ 48 ∷ 32 ∷ 45 ∷ 10 ∷ 49 ∷ 32
       ∷ 45 ∷ 53 ∷ 32 ∷ 48 ∷ 10 ∷ []
-  -- Method 2, an entry of 3 from 0 to 1, and none to 2. `2 3 0 0 260 0`, `0 0 -`, `1 3 0`, `2 - -`
+  -- Method 2, an entry of 3 from 0 to 1, and none to 2. `2 3 0 0 121 0`, `0 0 -`, `1 3 0`, `2 - -`
   pub unreached : deskText (0x20 ∷ 0 ∷ 3 ∷ 0 ∷ 0 ∷ 0 ∷ 0 ∷ 0 ∷ 0 ∷ 0 ∷ 0 ∷ 0 ∷ 0xFF ∷ 0xFF ∷ 0xFF ∷ 0xFF ∷ 0 ∷ 0 ∷ 0 ∷ 0 ∷ 0 ∷ 0 ∷ 0 ∷ 3
       ∷ 0 ∷ 0 ∷ 0 ∷ 0 ∷ 0xFF ∷ 0xFF ∷ 0xFF ∷ 0xFF ∷ 0 ∷ 0 ∷ 0 ∷ 0 ∷ 0xFF ∷ 0xFF ∷ 0xFF ∷ 0xFF ∷ 0 ∷ 0 ∷ 0 ∷ 0 ∷ 0xFF
       ∷ 0xFF ∷ 0xFF ∷ 0xFF ∷ 0 ∷ 0 ∷ 0 ∷ 0 ∷ 0xFF ∷ 0xFF ∷ 0xFF ∷ 0xFF ∷ 0 ∷ 0 ∷ 0 ∷ 0 ∷ 0xFF ∷ 0xFF ∷ 0xFF ∷ 0xFF ∷ 0
       ∷ 0 ∷ 0 ∷ 0 ∷ 0xFF ∷ 0xFF ∷ 0xFF ∷ 0xFF ∷ 0 ∷ 0 ∷ 0 ∷ 0 ∷ 0xFF ∷ 0xFF ∷ 0xFF ∷ 0xFF ∷ [])
-      ≡ 50 ∷ 32 ∷ 51 ∷ 32 ∷ 48 ∷ 32 ∷ 48 ∷ 32 ∷ 50 ∷ 54 ∷ 48 ∷ 32 ∷ 48 ∷ 10 ∷ 48 ∷ 32 ∷ 48 ∷ 32 ∷ 45 ∷ 10 ∷ 49 ∷ 32
+      ≡ 50 ∷ 32 ∷ 51 ∷ 32 ∷ 48 ∷ 32 ∷ 48 ∷ 32 ∷ 49 ∷ 50 ∷ 49 ∷ 32 ∷ 48 ∷ 10 ∷ 48 ∷ 32 ∷ 48 ∷ 32 ∷ 45 ∷ 10 ∷ 49 ∷ 32
       ∷ 51 ∷ 32 ∷ 48 ∷ 10 ∷ 50 ∷ 32 ∷ 45 ∷ 32 ∷ 45 ∷ 10 ∷ []
-  -- That lane in method 3: `3 2 1 0 114 0`, `0 0 -`, `1 -5 0`
+  -- That lane in method 3: `3 2 1 0 45 0`, `0 0 -`, `1 -5 0`
   pub sorted : deskText (0x30 ∷ 0 ∷ 2 ∷ 0 ∷ 0 ∷ 0x10 ∷ 0 ∷ 0 ∷ 0 ∷ 1 ∷ 0 ∷ 0 ∷ 0xFF ∷ 0xFF ∷ 0xFF ∷ 0xFB ∷ [])
-      ≡ 51 ∷ 32 ∷ 50 ∷ 32 ∷ 49 ∷ 32 ∷ 48 ∷ 32 ∷ 49 ∷ 49 ∷ 52 ∷ 32 ∷ 48 ∷ 10 ∷ 48 ∷ 32 ∷ 48 ∷ 32 ∷ 45 ∷ 10 ∷ 49 ∷ 32 ∷ 45 ∷ 53 ∷ 32 ∷ 48 ∷ 10 ∷ []
+      ≡ 51 ∷ 32 ∷ 50 ∷ 32 ∷ 49 ∷ 32 ∷ 48 ∷ 32 ∷ 52 ∷ 53 ∷ 32 ∷ 48 ∷ 10 ∷ 48 ∷ 32 ∷ 48 ∷ 32 ∷ 45 ∷ 10 ∷ 49 ∷ 32 ∷ 45 ∷ 53 ∷ 32 ∷ 48 ∷ 10 ∷ []
   -- Lanes to 1 and to 0 in method 3. `refused 15 1`
   pub out-of-order : deskText (0x30 ∷ 0 ∷ 2 ∷ 0 ∷ 0 ∷ 0x20 ∷ 0 ∷ 0 ∷ 0 ∷ 1 ∷ 0 ∷ 0 ∷ 0 ∷ 0 ∷ 0 ∷ 5 ∷ 1 ∷ 0 ∷ 0 ∷ 0 ∷ 0 ∷ 0 ∷ 0 ∷ 5 ∷ [])
       ≡ 114 ∷ 101 ∷ 102 ∷ 117 ∷ 115 ∷ 101 ∷ 100 ∷ 32 ∷ 49 ∷ 53 ∷ 32 ∷ 49 ∷ 10 ∷ []
@@ -65,7 +66,7 @@ pub record Example : Type 0 where
   pub digits : hexadecimal 0xFEDCBA9876543210 ≡ 102 ∷ 101 ∷ 100 ∷ 99 ∷ 98 ∷ 97 ∷ 57 ∷ 56 ∷ 55 ∷ 54 ∷ 53 ∷ 52 ∷ 51 ∷ 50 ∷ 49 ∷ 48 ∷ []
 
 pub example : Example
-unfolding leading decimal signed hexadecimal lineOf signedOf bitsOf bit wrapAdd both pick perform packed packedSet decodeAt zerosKept present admissibleAt carry logged cellsAfter logFrom logOf withoutPublishedFrom withoutPublished roundsOf sumOf chargeOf flat instructions Method1.plan Method2.plan Method3.plan instructionsOf planOf cellsOf resultsOf lengthOf headerRefusal weightOf wordCountOf logLengthOf verdictCell sizesRefusal inRange edgeRefusal sortedRefusal entryRefusal wordRefusal wordsRefusal requestRefusal stripsOf sourceOf laid startingCells verdictOf copied outcome joinedFrom wholeWords handedOver requestOf textOf logText deskText hostText
+unfolding leading decimal signed hexadecimal lineOf signedOf bitsOf bit wrapAdd both pick perform packed packedSet decodeAt zerosKept present admissibleAt carry logged cellsAfter logFrom logOf withoutPublishedFrom withoutPublished greatestFrom decodeAll depthOf chargeOf flat instructions Method1.plan Method2.plan Method3.plan instructionsOf planOf cellsOf resultsOf lengthOf headerRefusal weightOf wordCountOf logLengthOf verdictCell sizesRefusal inRange edgeRefusal sortedRefusal entryRefusal wordRefusal wordsRefusal requestRefusal stripsOf sourceOf laid startingCells verdictOf copied outcome joinedFrom wholeWords handedOver requestOf textOf logText deskText hostText
 example =
     record {
       results = refl;

@@ -1,22 +1,19 @@
--- A plan written to the log, carried out from there and its verdict published: what `carry` leaves. Rests on Logs and
--- charge's Weighed.
+-- A plan written to the log, carried out from there and its verdict published: what `carry` leaves. Rests on Logs and depths' Rounds.
 use mathlib.Core.Path.{_≡_, sym, ap, _∙_}
 use mathlib.Core.List.{List, _++_}
-use Prim.Native.Nat.{ℕ, _+_, _*_, _^_, _<_, _≤_}
+use Prim.Native.Nat.{ℕ, _+_, _≤_}
 use native.Mathlib.Nat.{zero-add}
 use native.Mathlib.Omega.{arith}
 use lib.IntN.{ℤ}
 use lib.ListN.{length, take, drop, length-append, length-drop}
 use lib.Seq.{sets, take-append-seam, length-take-le}
-use Rattle.machine.specs.Log.{Admitted, cellsAfter, logOf, rounds}
+use Rattle.machine.specs.Log.{Admitted, cellsAfter, logOf}
 use Rattle.machine.proofs.Carried.{length-after}
-use Rattle.machine.proofs.Replayed.{charge-log}
-use Rattle.charge.specs.Tally.{talliesOf, weighed}
-use Rattle.charge.proofs.Weighed.{weighed-tallies, fits}
 use Rattle.plans.specs.declared.Header.{Header}
-use Rattle.plans.specs.Plan.{planOf, lengthOf, verdictCell, published}
+use Rattle.plans.specs.Plan.{planOf, lengthOf, verdictCell, published, roundsOfPlan}
 use Rattle.plans.proofs.Addresses.{admitted-plan}
 use Rattle.plans.proofs.Figures.{length-plan}
+use Rattle.depths.proofs.Rounds.{rounds-log}
 use Rattle.answers.proofs.Filled.{from-start}
 use Rattle.answers.specs.Buffers.{overwritten}
 use Rattle.requests.specs.Refusal.{logLengthOf}
@@ -58,18 +55,10 @@ module _ {h : Header} {cells : List ℤ} {log : List ℕ} (r : Ready h cells log
     pub words-admitted : Admitted (length cells) (drop 1 (take size written))
     words-admitted = rw plan-there (admitted-plan h (r .allowed) (length cells) (r .cells-enough))
 
-    -- What `carry_words` answers and leaves.
-    module _ {tallies : List ℕ} {left : List ℤ}
-        (carried : (tallies ≡ talliesOf (drop 1 (take size written))) × (left ≡ cellsAfter (drop 1 (take size written)) cells)) where
-      tallied : tallies ≡ talliesOf (drop 1 (planOf h))
-      tallied = carried .0 ∙ rw plan-there
-
+    -- What `carry_words` leaves.
+    module _ {left : List ℤ} (carried : left ≡ cellsAfter (drop 1 (take size written)) cells) where
       left-is : left ≡ cellsAfter (drop 1 (planOf h)) cells
-      left-is = carried .1 ∙ rw plan-there
-
-      -- A lent log is short enough for its charge.
-      pub rounds-fit : 6 * length log < 2 ^ 64 → weighed tallies rounds < 2 ^ 64
-      rounds-fit short = fits (drop 1 (planOf h)) tallies tallied (omega (arith, plan-room, plan-long, length-drop 1 (planOf h)))
+      left-is = carried ∙ rw plan-there
 
       pub verdict-there : There (verdictCell h) (length left)
       verdict-there =
@@ -89,17 +78,17 @@ module _ {h : Header} {cells : List ℤ} {log : List ℕ} (r : Ready h cells log
           )
 
       -- What `publish` and `rounds_of` answer, and what is left.
-      pub ended : {end : ℕ} {after : List ℕ} {sum : ℕ}
+      pub ended : {end : ℕ} {after : List ℕ} {rounds : ℕ}
           → (end ≡ size + length (openedAt (verdictCell h) left)) × (after ≡ sets written size (openedAt (verdictCell h) left))
-          → sum ≡ weighed tallies rounds
-          → Carried h cells log (record { rounds = sum; length = end }) left after
-      ended {end} {after} {sum} p weighs =
+          → rounds ≡ roundsOfPlan h
+          → Carried h cells log (record { rounds = rounds; length = end }) left after
+      ended {end} {after} {rounds} p figure =
           let word = openedAt (verdictCell h) left in
           let whole : logOf (planOf h) cells ≡ planOf h ++ word = log-plan h (r .allowed) cells ∙ rw left-is in
           let long = ap length whole ∙ length-append (planOf h) word in
           let z : size ≡ length (planOf h) = done .0 ∙ sym plan-long in
           record {
-            charged = weighs ∙ rw (tallied, charge-log (planOf h) cells) (weighed-tallies (drop 1 (planOf h)));
+            charged = figure ∙ sym (rounds-log h (r .allowed) cells);
             length-is = omega (arith, p .0, long);
             cells-left = left-is;
             log-left = p .1 ∙ rw (done .1, z, whole) (further (planOf h) word log (omega arith));

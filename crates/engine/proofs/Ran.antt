@@ -9,7 +9,7 @@ use lib.IntN.{ℤ}
 use lib.ListN.{length, getD}
 use lib.Seq.{take-append-seam}
 use Rattle.machine.specs.Effect.{isZero, cellAt}
-use Rattle.machine.specs.Log.{chargeOf}
+use Rattle.machine.specs.Depth.{chargeOf}
 use Rattle.plans.specs.declared.Header.{Header}
 use Rattle.plans.specs.Plan.{Accepted, planOf, verdictCell, published}
 use Rattle.answers.specs.Buffers.{overwritten}

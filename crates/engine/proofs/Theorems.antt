@@ -10,10 +10,8 @@ use lib.Arith.{digits-lt}
 use lib.IntN.{ℤ}
 use lib.ListN.{length, getD}
 use Rattle.answers.specs.Refusal.{plain, placed}
-use Rattle.charge.proofs.Weighed.{charge-tallied}
 use Rattle.plans.specs.Limits.{far}
 use Rattle.plans.specs.Plan.{Kind, distances, parents}
-use Rattle.runner.specs.Runner.{planLog}
 use Rattle.runner.proofs.PlanWithin.{within-plan}
 use Rattle.runner.proofs.Refused.{nine-exactly, seven-exactly, settled-plan}
 use Rattle.runner.proofs.Foreign.{refused-plan, told-plan, length-told, log-beyond, cells-long, cells-spared, replayed-plan, charge-plan, words-plan}
@@ -25,7 +23,7 @@ use Rattle.graph.proofs.Parents.{distances-carried, parents-carried}
 use Rattle.engine.specs.Run.{Lent, outcome}
 use Rattle.engine.specs.Network.{edgeOf, networkOf, namingOf, sourcesOf}
 use Rattle.engine.specs.Besides.{besidesOf}
-use Rattle.engine.specs.Demands.{RanOn, verdictTold, logTold, resultOf, Demand1, Demand2, OneSource, Demand3a, Demand3, DemandPlan}
+use Rattle.engine.specs.Demands.{RanOn, verdictTold, resultOf, Demand1, Demand2, OneSource, Demand3a, Demand3, DemandPlan}
 use Rattle.engine.proofs.Intake.{laid-cells, lent-cells}
 use Rattle.engine.proofs.Ran.{allowed, leaves, by-verdict, cells-are, verdict-is, log-published, length-figure, length-whole}
 use Rattle.engine.proofs.Sources.{only-source, first-row, single}
@@ -119,7 +117,6 @@ demand3 request lent =
     record {
       carried-out = carried-out request lent;
       charged = charged request lent;
-      tallied = λ ran. charged request lent ran ∙ charge-tallied (logTold request lent);
       planned = planned request lent;
       verdict-last = log-published request lent;
       own-header = own-header request lent;
@@ -148,6 +145,5 @@ demandPlan plan cells log =
       cells-spared = cells-spared plan cells log;
       carried-out = replayed-plan plan cells log;
       charged = charge-plan plan cells log;
-      tallied = λ ran. charge-plan plan cells log ran ∙ charge-tallied (planLog plan cells log);
       planned = words-plan plan cells log;
     }

@@ -6,13 +6,14 @@ use mathlib.Core.List.{List, [], _∷_, _++_, append-cancel-left}
 use mathlib.Core.Option.{Option, none, some, Option·some-ne-none}
 use Prim.Native.Nat.{ℕ, _^_, _<_, _≤_}
 use lib.ListN.{length, getD}
-use Rattle.machine.specs.Log.{replay, withoutPublished, chargeOf}
-use Rattle.machine.proofs.Replayed.{replay-log, words-log, charge-log}
+use Rattle.machine.specs.Log.{replay, withoutPublished}
+use Rattle.machine.specs.Depth.{chargeOf}
+use Rattle.machine.proofs.Replayed.{replay-log, words-log}
 use Rattle.plans.specs.declared.Header.{Header}
 use Rattle.plans.specs.Plan.{cellsOf, planOf, verdictCell, published, roundsOfPlan}
 use Rattle.plans.proofs.Addresses.{admitted-plan}
-use Rattle.plans.proofs.Figures.{rounds-plan}
 use Rattle.plans.proofs.Same.{headerWord-headerOf, same-plan}
+use Rattle.depths.proofs.Rounds.{rounds-log}
 use Rattle.requests.specs.WithinLimits.{headerIn}
 use Rattle.engine.specs.Run.{Lent, startOf, outcome}
 use Rattle.engine.specs.Demands.{RanOn, roundsTold, verdictTold, logTold, SamePublic}
@@ -44,9 +45,7 @@ module _ (request : List ℕ) (lent : Lent) (ran : RanOn request lent) where
 
   pub rounds-figure : roundsTold request lent ≡ roundsOfPlan (headerIn request)
   rounds-figure =
-      rounds-are request lent ran
-      ∙ charge-log (planOf (headerIn request)) (startOf request lent)
-      ∙ rounds-plan (headerIn request) (allowed request lent ran)
+      rounds-are request lent ran ∙ rounds-log (headerIn request) (allowed request lent ran) (startOf request lent)
 
 -- ---- two runs
 

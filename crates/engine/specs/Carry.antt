@@ -6,7 +6,8 @@ use Prim.Native.Nat.{ℕ, _≤_}
 use lib.IntN.{ℤ}
 use lib.ListN.{length, drop}
 use Rattle.answers.specs.Buffers.{overwritten}
-use Rattle.machine.specs.Log.{cellsAfter, logOf, chargeOf}
+use Rattle.machine.specs.Log.{cellsAfter, logOf}
+use Rattle.machine.specs.Depth.{chargeOf}
 use Rattle.plans.specs.declared.Header.{Header}
 use Rattle.plans.specs.Plan.{Accepted, planOf, cellsOf}
 use Rattle.runner.specs.declared.PlanReport.{PlanReport}

@@ -12,8 +12,8 @@ use Rattle.answers.specs.Refusal.{plain, placed}
 use Rattle.answers.specs.Told.{refused}
 use Rattle.machine.specs.Instruction.{All}
 use Rattle.machine.specs.Effect.{cellAt}
-use Rattle.machine.specs.Log.{Spares, replay, withoutPublished, operations, rounds, chargeOf}
-use Rattle.charge.specs.Tally.{talliesOf, weighed}
+use Rattle.machine.specs.Log.{Spares, replay, withoutPublished}
+use Rattle.machine.specs.Depth.{chargeOf}
 use Rattle.plans.specs.Limits.{far}
 use Rattle.plans.specs.Plan.{cellsOf, instructionsOf, planOf, Kind, distances, parents, resultsOf, verdictCell, published, roundsOfPlan}
 use Rattle.runner.specs.Runner.{logSize, runnerRefusal, planOutcome, planRounds, planLength, planLog}
@@ -139,18 +139,17 @@ Demand3a = (request request′ : List ℕ) (lent lent′ : Lent) → RanOn reque
     → (logTold request lent ≡ logTold request′ lent′) ↔ SamePublic request lent request′ lent′
 
 pub record Demand3 (request : List ℕ) (lent : Lent) : Type 0 where
-  -- (b) The log alone, carried out from the starting cells, leaves what the run left, every lent cell; the rounds are the log's charge.
+  -- (b) The log alone, carried out from the starting cells, leaves what the run left, every lent cell; the rounds are the log's charge, the greatest
+  -- depth of its words, the published ones passed over (document 02, ask 4).
   pub carried-out : RanOn request lent → replay (logTold request lent) (startOf request lent) ≡ some (outcome request lent .cells)
   pub charged : RanOn request lent → roundsTold request lent ≡ chargeOf (logTold request lent)
-  -- They are also what the log's operations come to when they are tallied by op and multiplied last (document 02, ask 2).
-  pub tallied : RanOn request lent → roundsTold request lent ≡ weighed (talliesOf (operations (logTold request lent))) rounds
   -- (c) The log without its published words is the plan of the header, whichever the verdict. With them it is that plan and the verdict, and
   -- its first word is the request's own.
   pub planned : RanOn request lent → withoutPublished (logTold request lent) ≡ planOf (headerIn request)
   pub verdict-last : RanOn request lent
       → logTold request lent ≡ planOf (headerIn request) ++ published (verdictCell (headerIn request)) (verdictTold request lent)
   pub own-header : RanOn request lent → getD request 0 0 < 2 ^ 64 → getD (logTold request lent) 0 0 ≡ getD request 0 0
-  -- The length and the rounds told are document 01's figures for the header, and the log has that many words.
+  -- The length and the rounds told are the documents' figures for the header, and the log has that many words.
   pub length-figure : RanOn request lent → lengthTold request lent ≡ logLengthOf (headerIn request)
   pub length-whole : RanOn request lent → length (logTold request lent) ≡ lengthTold request lent
   pub rounds-figure : RanOn request lent → roundsTold request lent ≡ roundsOfPlan (headerIn request)
@@ -195,9 +194,7 @@ pub record DemandPlan (plan : List ℕ) (cells : List ℤ) (log : List ℕ) : Ty
   pub cells-long : PlanRanOn plan cells log → length (planOutcome plan cells log .cells) ≡ length cells
   pub cells-spared : PlanRanOn plan cells log → (k : ℕ) → All (Spares k) (drop 1 plan)
       → cellAt (planOutcome plan cells log .cells) k ≡ cellAt cells k
-  -- The log alone, carried out from the lent cells, leaves what the run left; the rounds are its charge, and what its tallies come to; without
-  -- its published words it is the plan.
+  -- The log alone, carried out from the lent cells, leaves what the run left; the rounds are its charge; without its published words it is the plan.
   pub carried-out : PlanRanOn plan cells log → replay (planLog plan cells log) cells ≡ some (planOutcome plan cells log .cells)
   pub charged : PlanRanOn plan cells log → planRounds plan cells log ≡ chargeOf (planLog plan cells log)
-  pub tallied : PlanRanOn plan cells log → planRounds plan cells log ≡ weighed (talliesOf (operations (planLog plan cells log))) rounds
   pub planned : PlanRanOn plan cells log → withoutPublished (planLog plan cells log) ≡ plan

@@ -11,7 +11,8 @@ use Rattle.answers.specs.Told.{Told, refused}
 use Rattle.answers.specs.Buffers.{overwritten}
 use Rattle.fields.specs.Fields.{bitsOf}
 use Rattle.machine.specs.Effect.{isZero, cellAt}
-use Rattle.machine.specs.Log.{cellsAfter, logOf, chargeOf}
+use Rattle.machine.specs.Log.{cellsAfter, logOf}
+use Rattle.machine.specs.Depth.{chargeOf}
 use Rattle.plans.specs.declared.Header.{Header}
 use Rattle.plans.specs.Plan.{planOf, verdictCell, Kind, distances, parents, resultsOf}
 use Rattle.requests.specs.declared.Lengths.{Lengths}

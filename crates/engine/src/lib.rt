@@ -1,5 +1,5 @@
 // The engine: a request run on lent buffers.
-// Rests on requests (checks), intake (the starting cells), planner (the plan), runner (carrying out) and charge (the rounds).
+// Rests on requests (checks), intake (the starting cells), planner (the plan and its rounds) and runner (carrying out).
 use answers::Checked;
 use answers::Refusal;
 use planner::VerdictCell;
@@ -46,15 +46,16 @@ fn publish(verdict: VerdictCell, cells: &[i64], log: &mut [u64], at: usize) -> u
     }
 }
 
-// The plan of the header written to the log and carried out, in order, each word once; then the verdict published.
+// The plan of the header written to the log and carried out, in order, each word once; then the verdict published. The rounds follow from the
+// header: no depths are kept.
 fn carry(h: Header, verdict: VerdictCell, cells: &mut [i64], log: &mut [u64]) -> PlanReport
     requires { ⌜ (cellIn verdict ≡ verdictCell h) × Ready h (now cells) (now log) ⌝ }
     ensures { λ r. ⌜ Carried h (now (cells .entry)) (now (log .entry)) r (now (cells .exit)) (now (log .exit)) ⌝ }
 {
     let size = planner::fill(h, log);
-    let tallies = runner::carry_words(&log[..size], cells);
+    runner::carry_words(&log[..size], cells);
     let length = publish(verdict, cells, log, size);
-    let rounds = charge::rounds_of(tallies);
+    let rounds = planner::rounds_of(h);
     PlanReport { rounds, length }
 }
 

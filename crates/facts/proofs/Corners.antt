@@ -3,7 +3,8 @@ use mathlib.Core.Path.{refl}
 use Rattle.fields.specs.Fields.{signedOf, bitsOf}
 use Rattle.machine.specs.Effect.{bit, wrapAdd, both, pick, perform}
 use Rattle.machine.specs.Word.{packed, packedSet, decodeAt, zerosKept, present, admissibleAt}
-use Rattle.machine.specs.Log.{carry, logged, cellsAfter, logFrom, logOf, withoutPublishedFrom, withoutPublished, roundsOf, sumOf, chargeOf}
+use Rattle.machine.specs.Log.{carry, logged, cellsAfter, logFrom, logOf, withoutPublishedFrom, withoutPublished}
+use Rattle.machine.specs.Depth.{greatestFrom, decodeAll, depthOf, chargeOf}
 use Rattle.plans.specs.Blocks.{flat}
 use Rattle.plans.specs.Outline.{instructions}
 use Rattle.plans.specs.Method1 as Method1
@@ -18,13 +19,13 @@ use Rattle.engine.specs.Run.{verdictOf, outcome}
 use Rattle.facts.specs.Corners.{Corners}
 
 pub corners : Corners
-unfolding signedOf bitsOf bit wrapAdd both pick perform packed packedSet decodeAt zerosKept present admissibleAt carry logged cellsAfter logFrom logOf withoutPublishedFrom withoutPublished roundsOf sumOf chargeOf flat instructions Method1.plan Method2.plan Method3.plan instructionsOf planOf cellsOf resultsOf lengthOf headerRefusal weightOf wordCountOf logLengthOf verdictCell sizesRefusal inRange edgeRefusal sortedRefusal entryRefusal wordRefusal wordsRefusal requestRefusal stripsOf sourceOf laid startingCells verdictOf copied outcome
+unfolding signedOf bitsOf bit wrapAdd both pick perform packed packedSet decodeAt zerosKept present admissibleAt carry logged cellsAfter logFrom logOf withoutPublishedFrom withoutPublished greatestFrom decodeAll depthOf chargeOf flat instructions Method1.plan Method2.plan Method3.plan instructionsOf planOf cellsOf resultsOf lengthOf headerRefusal weightOf wordCountOf logLengthOf verdictCell sizesRefusal inRange edgeRefusal sortedRefusal entryRefusal wordRefusal wordsRefusal requestRefusal stripsOf sourceOf laid startingCells verdictOf copied outcome
 corners =
     record {
       smallest = (refl, refl, refl);
       printed = (refl, refl, refl);
       loops = (refl, refl);
-      ties = (refl, refl);
+      ties = (refl, refl, refl);
       elsewhere = (refl, refl);
       no-edges = (refl, refl);
       one-vertex = (refl, refl);

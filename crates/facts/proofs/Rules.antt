@@ -4,10 +4,9 @@ use Rattle.answers.proofs.Facts as Answers
 use Rattle.fields.specs.Fields.{signedOf, bitsOf}
 use Rattle.machine.specs.Effect.{bit, wrapAdd, both, pick, perform}
 use Rattle.machine.specs.Word.{packed, packedSet, decodeAt, zerosKept, present, admissibleAt}
-use Rattle.machine.specs.Log.{carry, logged, cellsAfter, logFrom, logOf, withoutPublishedFrom, withoutPublished, roundsOf, sumOf, chargeOf}
+use Rattle.machine.specs.Log.{carry, logged, cellsAfter, logFrom, logOf, withoutPublishedFrom, withoutPublished, sumOf}
+use Rattle.machine.specs.Depth.{greatestFrom, decodeAll, depthOf, chargeOf}
 use Rattle.machine.proofs.Facts as Machine
-use Rattle.charge.specs.Tally.{talliesOf, weighed}
-use Rattle.charge.proofs.Facts as Charge
 use Rattle.plans.specs.Blocks.{flat}
 use Rattle.plans.specs.Outline.{instructions}
 use Rattle.plans.specs.Method1 as Method1
@@ -34,12 +33,11 @@ same : (o p : Outcome) → o .answer ≡ p .answer → o .cells ≡ p .cells →
 same o p a c l r = λ i. record { answer = a i; cells = c i; log = l i; results = fun-ext r i }
 
 pub rules : Rules
-unfolding signedOf bitsOf bit wrapAdd both pick perform packed packedSet decodeAt zerosKept present admissibleAt carry logged cellsAfter logFrom logOf withoutPublishedFrom withoutPublished roundsOf sumOf chargeOf talliesOf weighed flat instructions Method1.plan Method2.plan Method3.plan instructionsOf planOf cellsOf resultsOf lengthOf headerRefusal weightOf wordCountOf logLengthOf verdictCell sizesRefusal inRange edgeRefusal sortedRefusal entryRefusal wordRefusal wordsRefusal requestRefusal stripsOf sourceOf laid copied startingCells firstBad logSize runnerRefusal planOutcome verdictOf outcome sourcesOf
+unfolding signedOf bitsOf bit wrapAdd both pick perform packed packedSet decodeAt zerosKept present admissibleAt carry logged cellsAfter logFrom logOf withoutPublishedFrom withoutPublished sumOf greatestFrom decodeAll depthOf chargeOf flat instructions Method1.plan Method2.plan Method3.plan instructionsOf planOf cellsOf resultsOf lengthOf headerRefusal weightOf wordCountOf logLengthOf verdictCell sizesRefusal inRange edgeRefusal sortedRefusal entryRefusal wordRefusal wordsRefusal requestRefusal stripsOf sourceOf laid copied startingCells firstBad logSize runnerRefusal planOutcome verdictOf outcome sourcesOf
 rules =
     record {
       answers = Answers.facts;
       machine = Machine.facts;
-      charge = Charge.facts;
       plans = Plans.facts;
       planner = Planner.facts;
       requests = Requests.facts;
@@ -63,6 +61,5 @@ rules =
       fault-order = (refl, refl, refl, refl);
       refuses = refl;
       untouched = same _ _ refl refl refl (each-kind _ refl refl);
-      tallies = (refl, refl, refl, refl);
       sources = (refl, refl, refl);
     }

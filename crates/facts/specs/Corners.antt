@@ -27,34 +27,35 @@ abbrev pub loopOf : (bits : ℕ) → Outcome
 loopOf bits = outcome (0x1000010000100000 ∷ bits ∷ []) (zeros 14 18 1)
 
 pub record Corners : Type 0 where
-  -- 1. The whole plan; the log adds a zero word; 6 rounds.
+  -- 1. The whole plan; the log adds a zero word; 2 rounds.
   pub smallest : (planOf (headerOf 0x1000010000000000) ≡ smallestPlan)
       × (outcome (0x1000010000000000 ∷ []) (zeros 11 8 1) .log ≡ smallestPlan ++ (0 ∷ []))
-      × (outcome (0x1000010000000000 ∷ []) (zeros 11 8 1) .answer ≡ ran 6 8)
-  -- 2. The printed request: 112 rounds, distances 0 and -5, parents none and edge 0.
-  pub printed : (outcome (0x1000020000100000 ∷ 0x00010000FFFFFFFB ∷ []) (zeros 17 48 2) .answer ≡ ran 112 48)
+      × (outcome (0x1000010000000000 ∷ []) (zeros 11 8 1) .answer ≡ ran 2 8)
+  -- 2. The printed request: 31 rounds, distances 0 and -5, parents none and edge 0.
+  pub printed : (outcome (0x1000020000100000 ∷ 0x00010000FFFFFFFB ∷ []) (zeros 17 48 2) .answer ≡ ran 31 48)
       × (outcome (0x1000020000100000 ∷ 0x00010000FFFFFFFB ∷ []) (zeros 17 48 2) .results distances ≡ pos 0 ∷ negsuc 4 ∷ [])
       × (outcome (0x1000020000100000 ∷ 0x00010000FFFFFFFB ∷ []) (zeros 17 48 2) .results parents ≡ negsuc 0 ∷ pos 0 ∷ [])
-  -- 3. A loop of weight -1 is 12; of weight 0 it runs.
-  pub loops : (loopOf 0xFFFFFFFF .answer .number ≡ 12) × (loopOf 0 .answer .number ≡ 0)
-  -- 4. Two edges from 0 to 1 at 4 and 4: distance 4, parent 0.
-  pub ties : (outcome (0x1000020000200000 ∷ 0x0001000000000004 ∷ 0x0001000000000004 ∷ []) (zeros 20 85 2) .results distances ≡ pos 0 ∷ pos 4 ∷ [])
+  -- 3. A loop of weight -1 is 12; of weight 0 it runs. 18 rounds.
+  pub loops : (loopOf 0xFFFFFFFF .answer ≡ record { number = 12; place = none; values = 18 ∷ 18 ∷ 1 ∷ [] }) × (loopOf 0 .answer ≡ ran 18 18)
+  -- 4. Two edges from 0 to 1 at 4 and 4: distance 4, parent 0, 44 rounds.
+  pub ties : (outcome (0x1000020000200000 ∷ 0x0001000000000004 ∷ 0x0001000000000004 ∷ []) (zeros 20 85 2) .answer ≡ ran 44 85)
+      × (outcome (0x1000020000200000 ∷ 0x0001000000000004 ∷ 0x0001000000000004 ∷ []) (zeros 20 85 2) .results distances ≡ pos 0 ∷ pos 4 ∷ [])
       × (outcome (0x1000020000200000 ∷ 0x0001000000000004 ∷ 0x0001000000000004 ∷ []) (zeros 20 85 2) .results parents ≡ negsuc 0 ∷ pos 0 ∷ [])
-  -- 5. A negative cycle that the source does not reach: verdict 0, vertices 1 and 2 unreached.
+  -- 5. A negative cycle that the source does not reach: verdict 0, vertices 1 and 2 unreached, 73 rounds.
   pub elsewhere :
-      (outcome (0x1000030000200000 ∷ 0x01020000FFFFFFFF ∷ 0x02010000FFFFFFFF ∷ []) (zeros 23 174 3) .answer ≡ ran 460 174)
+      (outcome (0x1000030000200000 ∷ 0x01020000FFFFFFFF ∷ 0x02010000FFFFFFFF ∷ []) (zeros 23 174 3) .answer ≡ ran 73 174)
       × (outcome (0x1000030000200000 ∷ 0x01020000FFFFFFFF ∷ 0x02010000FFFFFFFF ∷ []) (zeros 23 174 3) .results distances
       ≡ pos 0 ∷ far ∷ far ∷ [])
-  -- 6. Method 2, n = 2, no edges: distances 0 and FAR, 116 rounds.
+  -- 6. Method 2, n = 2, no edges: distances 0 and FAR, 63 rounds.
   pub no-edges :
       (outcome (0x2000020000000000 ∷ 0xFFFFFFFF ∷ 0xFFFFFFFF ∷ 0xFFFFFFFF ∷ 0xFFFFFFFF ∷ []) (zeros 20 67 2) .results distances
       ≡ pos 0 ∷ far ∷ [])
-      × (outcome (0x2000020000000000 ∷ 0xFFFFFFFF ∷ 0xFFFFFFFF ∷ 0xFFFFFFFF ∷ 0xFFFFFFFF ∷ []) (zeros 20 67 2) .answer ≡ ran 116 67)
-  -- 7. Method 2, n = 1: 21 words, 32 rounds.
+      × (outcome (0x2000020000000000 ∷ 0xFFFFFFFF ∷ 0xFFFFFFFF ∷ 0xFFFFFFFF ∷ 0xFFFFFFFF ∷ []) (zeros 20 67 2) .answer ≡ ran 63 67)
+  -- 7. Method 2, n = 1: 21 words, 23 rounds.
   pub one-vertex : (length (planOf (headerOf 0x2000010000000000)) ≡ 21)
-      × (outcome (0x2000010000000000 ∷ 0 ∷ []) (zeros 12 21 1) .answer ≡ ran 32 21)
-  -- 8. Row 3's edge at 1,000,000 runs; at 1,000,001 it is 11, place 0.
-  pub weights : (loopOf 1000000 .answer .number ≡ 0)
+      × (outcome (0x2000010000000000 ∷ 0 ∷ []) (zeros 12 21 1) .answer ≡ ran 23 21)
+  -- 8. Row 3's edge at 1,000,000 runs, 18 rounds; at 1,000,001 it is 11, place 0.
+  pub weights : (loopOf 1000000 .answer ≡ ran 18 18)
       × (loopOf 1000001 .answer ≡ record { number = 11; place = some 0; values = [] })
   -- 9. n = 33 is 2; m = 129 is 3.
   pub limits : (outcome (0x1000210000000000 ∷ []) (zeros 0 0 0) .answer .number ≡ 2)

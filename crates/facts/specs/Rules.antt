@@ -9,10 +9,7 @@ use lib.ListN.{replicate}
 use Rattle.answers.specs.Told.{Told}
 use Rattle.answers.specs.Facts as Answers
 use Rattle.answers.specs.Facts.{byNumber, atPlace}
-use Rattle.machine.specs.Log.{operations, rounds}
 use Rattle.machine.specs.Facts as Machine
-use Rattle.charge.specs.Tally.{talliesOf, weighed}
-use Rattle.charge.specs.Facts as Charge
 use Rattle.plans.specs.Plan.{headerOf, distances, parents, byKind}
 use Rattle.plans.specs.Facts as Plans
 use Rattle.planner.specs.Facts as Planner
@@ -38,8 +35,6 @@ pub record Rules : Type 0 where
   pub answers : Answers.Facts
   -- "Cell words"
   pub machine : Machine.Facts
-  -- Document 02, ask 2: tallies by op, multiplied last
-  pub charge : Charge.Facts
   -- "Plan of method 1", "Plan of method 2", that of method 3, and the limits of "Request words"
   pub plans : Plans.Facts
   -- "Who caused it": headers, writing a plan
@@ -74,7 +69,7 @@ pub record Rules : Type 0 where
   -- "11, with place: price outside its range."
   pub eleven : requestAnswered (0x1000020000100000 ∷ 0x00000000FFF0BDBF ∷ []) 17 48 2 2 ≡ atPlace 11 0
   -- "12: loss circle", a lane from 0 to 0 at -1. "A request's run, 12 included, answers its rounds, log length and verdict"; without results.
-  pub twelve : (requestAnswered (0x1000010000100000 ∷ 0x00000000FFFFFFFF ∷ []) 14 18 1 1 ≡ record { number = 12; place = none; values = 34 ∷ 18 ∷ 1 ∷ [] })
+  pub twelve : (requestAnswered (0x1000010000100000 ∷ 0x00000000FFFFFFFF ∷ []) 14 18 1 1 ≡ record { number = 12; place = none; values = 18 ∷ 18 ∷ 1 ∷ [] })
       × (outcome (0x1000010000100000 ∷ 0x00000000FFFFFFFF ∷ []) (nines 14 18 1 1) .results distances ≡ pos 9 ∷ [])
       × (outcome (0x1000010000100000 ∷ 0x00000000FFFFFFFF ∷ []) (nines 14 18 1 1) .results parents ≡ pos 9 ∷ [])
   -- "13 when the from-yard is not below n" (document 02, ask 1): 2 of 2 yards, in the first lane and in the second.
@@ -103,21 +98,11 @@ pub record Rules : Type 0 where
   -- "Cells, log and results beyond the needed part stay untouched": method 1, n = 1, m = 0, one place more of each.
   pub untouched : outcome (0x1000010000000000 ∷ []) (nines 12 9 2 2)
       ≡ record {
-        answer = record { number = 0; place = none; values = 6 ∷ 8 ∷ 0 ∷ [] };
+        answer = record { number = 0; place = none; values = 2 ∷ 8 ∷ 0 ∷ [] };
         cells = (pos 0 ∷ negsuc 0 ∷ pos 0 ∷ pos 274877906944 ∷ []) ++ replicate 7 (pos 0) ++ (pos 9 ∷ []);
         log = smallestPlan ++ (0 ∷ 9 ∷ []);
         results = byKind (pos 0 ∷ pos 9 ∷ []) (negsuc 0 ∷ pos 9 ∷ []);
       }
-  -- "Keep eight tallies, one for each op, and multiply by the rounds column at the end" (document 02, ask 2): of the logs of rows 2 and 6 of the
-  -- edges, which tell 112 and 116 rounds.
-  pub tallies : (talliesOf (operations (outcome (0x1000020000100000 ∷ 0x00010000FFFFFFFB ∷ []) (nines 17 48 2 2) .log))
-      ≡ 9 ∷ 2 ∷ 2 ∷ 6 ∷ 8 ∷ 8 ∷ 10 ∷ 1 ∷ [])
-      × (weighed (9 ∷ 2 ∷ 2 ∷ 6 ∷ 8 ∷ 8 ∷ 10 ∷ 1 ∷ []) rounds ≡ 112)
-      × (talliesOf
-      (operations
-      (outcome (0x2000020000000000 ∷ 0xFFFFFFFF ∷ 0xFFFFFFFF ∷ 0xFFFFFFFF ∷ 0xFFFFFFFF ∷ []) (nines 20 67 2 2) .log))
-      ≡ 12 ∷ 6 ∷ 4 ∷ 8 ∷ 4 ∷ 4 ∷ 28 ∷ 0 ∷ [])
-      × (weighed (12 ∷ 6 ∷ 4 ∷ 8 ∷ 4 ∷ 4 ∷ 28 ∷ 0 ∷ []) rounds ≡ 116)
   -- The sources that distances are from: the header's, in every method.
   pub sources : (sourcesOf (headerOf 0x1000200008000007) ≡ 7 ∷ [])
       × (sourcesOf (headerOf 0x2000200000000013) ≡ 19 ∷ [])

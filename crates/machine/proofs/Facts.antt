@@ -3,11 +3,12 @@ use mathlib.Core.Path.{refl}
 use Rattle.fields.specs.Fields.{signedOf, bitsOf}
 use Rattle.machine.specs.Effect.{bit, wrapAdd, both, pick, perform}
 use Rattle.machine.specs.Word.{packed, packedSet, decodeAt, zerosKept, present, admissibleAt}
-use Rattle.machine.specs.Log.{carry, logged, cellsAfter, logFrom, logOf, replayFrom, replay, withoutPublishedFrom, withoutPublished, roundsOf, sumOf, chargeOf}
+use Rattle.machine.specs.Log.{carry, logged, cellsAfter, logFrom, logOf, replayFrom, replay, withoutPublishedFrom, withoutPublished}
+use Rattle.machine.specs.Depth.{greatestFrom, decodeAll, depthOf, chargeOf}
 use Rattle.machine.specs.Facts.{Facts}
 
 pub facts : Facts
-unfolding signedOf bitsOf bit wrapAdd both pick perform packed packedSet decodeAt zerosKept present admissibleAt carry logged cellsAfter logFrom logOf replayFrom replay withoutPublishedFrom withoutPublished roundsOf sumOf chargeOf
+unfolding signedOf bitsOf bit wrapAdd both pick perform packed packedSet decodeAt zerosKept present admissibleAt carry logged cellsAfter logFrom logOf replayFrom replay withoutPublishedFrom withoutPublished greatestFrom decodeAll depthOf chargeOf
 facts =
     record {
       words = (refl, refl, refl, refl, refl, refl, refl, refl, refl);
@@ -21,7 +22,15 @@ facts =
       moveif = (refl, refl, refl, refl, refl);
       open-keeps = refl;
       column = (refl, refl, refl, refl, refl, refl, refl, refl);
-      charges = (refl, refl, refl);
+      greatest = (refl, refl, refl, refl);
+      reads = (refl, refl, refl, refl, refl, refl, refl, refl, refl);
+      hands-on = (refl, refl, refl);
+      reads-d = (refl, refl, refl, refl, refl, refl);
+      zeros-unread = (refl, refl);
+      set-reads-none = (refl, refl);
+      takes = (refl, refl, refl);
+      open-writes-none = (refl, refl);
+      published-free = (refl, refl);
       published = (refl, refl, refl, refl, refl);
       log = (refl, refl);
       order = refl;

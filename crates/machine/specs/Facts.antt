@@ -8,15 +8,16 @@ use Prim.Native.Nat.{ℕ}
 use lib.IntN.{pos, negsuc}
 use Rattle.machine.specs.Instruction.{SET, COPY, ADD, LESS, EQUAL, BOTH, MOVEIF, OPEN}
 use Rattle.machine.specs.Word.{encode, decode, admissible}
-use Rattle.machine.specs.Log.{carried, logged, cellsAfter, logOf, replay, withoutPublished, chargeOf}
+use Rattle.machine.specs.Log.{carried, logged, cellsAfter, logOf, replay, withoutPublished}
+use Rattle.machine.specs.Depth.{chargeOf}
 
 -- Which of some words a bank of 3 cells can carry out.
 abbrev pub tested : List ℕ → List Bool
 tested = map (admissible 3)
 
--- The charge of a log of a header and one word.
-abbrev pub charged : (word : ℕ) → ℕ
-charged w = chargeOf (0x1000010000000000 ∷ w ∷ [])
+-- The charge of a log of a header, here a LESS, and operation words.
+abbrev pub charged : (words : List ℕ) → ℕ
+charged ws = chargeOf (0x3000000000000000 ∷ ws)
 
 pub record Facts : Type 0 where
   -- "op 4 bits, d 20, a 20, b 20": the word of an instruction of each op.
@@ -83,19 +84,57 @@ pub record Facts : Type 0 where
       × (carried 0x6000010000100001 (pos 7 ∷ pos 8 ∷ pos 9 ∷ []) ≡ pos 7 ∷ pos 8 ∷ pos 9 ∷ [])
   -- "OPEN changes nothing"
   pub open-keeps : carried 0x7000000000100000 (pos 7 ∷ pos 8 ∷ pos 9 ∷ []) ≡ pos 7 ∷ pos 8 ∷ pos 9 ∷ []
-  -- The column "rounds". "A log's charge .. is the plain sum of this column over the words carried out": the header and a published word
-  -- cost nothing, whatever they look like.
-  pub column : (charged 0x0000000000000000 ≡ 1)
-      × (charged 0x1000000000000000 ≡ 0)
-      × (charged 0x2000000000000000 ≡ 0)
-      × (charged 0x3000000000000000 ≡ 6)
-      × (charged 0x4000000000000000 ≡ 6)
-      × (charged 0x5000000000000000 ≡ 1)
-      × (charged 0x6000000000000000 ≡ 1)
-      × (charged 0x7000000000000000 ≡ 1)
-  pub charges : (chargeOf [] ≡ 0)
-      × (chargeOf (0x3000000000000000 ∷ []) ≡ 0)
-      × (chargeOf (0x3000000000000000 ∷ 0x7000000000000000 ∷ 0x3000000000000000 ∷ 0x4000000000000000 ∷ 0x4000000000000000 ∷ []) ≡ 13)
+  -- Document 02, ask 4. The column "rounds", of each op alone: the header costs nothing.
+  pub column : (charged (0x0000000000000000 ∷ []) ≡ 1)
+      × (charged (0x1000000000000000 ∷ []) ≡ 0)
+      × (charged (0x2000000000000000 ∷ []) ≡ 0)
+      × (charged (0x3000000000000000 ∷ []) ≡ 6)
+      × (charged (0x4000000000000000 ∷ []) ≡ 6)
+      × (charged (0x5000000000000000 ∷ []) ≡ 1)
+      × (charged (0x6000000000000000 ∷ []) ≡ 1)
+      × (charged (0x7000000000000000 ∷ []) ≡ 1)
+  -- "the greatest depth of any word, 0 if there is none": LESS to cell 1, and words that read neither it nor each other, before and after it.
+  pub greatest : (chargeOf [] ≡ 0)
+      × (charged [] ≡ 0)
+      × (charged (0x3000010000000000 ∷ 0x4000020000000000 ∷ 0x0000030000000000 ∷ []) ≡ 6)
+      × (charged (0x0000030000000000 ∷ 0x3000010000000000 ∷ []) ≡ 6)
+  -- "the greatest depth among the cells it reads .. plus the column": after LESS to cell 1, words of each op that read it as a or as b.
+  pub reads : (charged (0x3000010000000000 ∷ 0x3000020000100000 ∷ []) ≡ 12)
+      × (charged (0x3000010000000000 ∷ 0x3000020000000001 ∷ []) ≡ 12)
+      × (charged (0x3000010000000000 ∷ 0x4000020000100000 ∷ []) ≡ 12)
+      × (charged (0x3000010000000000 ∷ 0x4000020000000001 ∷ []) ≡ 12)
+      × (charged (0x3000010000000000 ∷ 0x5000020000100000 ∷ []) ≡ 7)
+      × (charged (0x3000010000000000 ∷ 0x5000020000000001 ∷ []) ≡ 7)
+      × (charged (0x3000010000000000 ∷ 0x6000020000100000 ∷ []) ≡ 7)
+      × (charged (0x3000010000000000 ∷ 0x6000020000000001 ∷ []) ≡ 7)
+      × (charged (0x3000010000000000 ∷ 0x7000000000100000 ∷ 6 ∷ []) ≡ 7)
+  -- COPY and ADD cost nothing and hand on what they read, ADD from either: a BOTH of cell 2 tells.
+  pub hands-on : (charged (0x3000010000000000 ∷ 0x1000020000100000 ∷ 0x5000030000200002 ∷ []) ≡ 7)
+      × (charged (0x3000010000000000 ∷ 0x2000020000100000 ∷ 0x5000030000200002 ∷ []) ≡ 7)
+      × (charged (0x3000010000000000 ∷ 0x2000020000000001 ∷ 0x5000030000200002 ∷ []) ≡ 7)
+  -- "MOVEIF also reading [d]", here cell 1; no other op reads it. Of COPY and ADD a BOTH of that cell tells.
+  pub reads-d : (charged (0x3000010000000000 ∷ 0x6000010000000000 ∷ []) ≡ 7)
+      × (charged (0x3000010000000000 ∷ 0x5000010000000000 ∷ []) ≡ 6)
+      × (charged (0x3000010000000000 ∷ 0x4000010000000000 ∷ []) ≡ 6)
+      × (charged (0x3000010000000000 ∷ 0x3000010000000000 ∷ []) ≡ 6)
+      × (charged (0x3000010000000000 ∷ 0x2000010000000000 ∷ 0x5000020000100001 ∷ []) ≡ 6)
+      × (charged (0x3000010000000000 ∷ 0x1000010000000000 ∷ 0x5000020000100001 ∷ []) ≡ 6)
+  -- COPY's b and OPEN's d and b, which are 0, are no cells: here cell 0 is a LESS's, and the words read cell 1.
+  pub zeros-unread : (charged (0x3000000000100001 ∷ 0x1000020000100000 ∷ 0x5000030000200002 ∷ []) ≡ 6)
+      × (charged (0x3000000000100001 ∷ 0x7000000000100000 ∷ 0 ∷ []) ≡ 6)
+  -- "or 0 where it reads none": SET's a and b, here 1 and 1, are no cells, and [d] is not read.
+  pub set-reads-none : (charged (0x3000010000000000 ∷ 0x0000020000100001 ∷ []) ≡ 6) × (charged (0x3000010000000000 ∷ 0x0000010000000000 ∷ []) ≡ 6)
+  -- "the written cell takes that depth", a lesser one too: a BOTH of a cell that was a LESS's and then is a SET's, and of one that was an EQUAL's
+  -- and then is a COPY of cell 0. Three MOVEIFs of one cell.
+  pub takes : (charged (0x3000010000000000 ∷ 0x0000010000000000 ∷ 0x5000020000100001 ∷ []) ≡ 6)
+      × (charged (0x3000010000000000 ∷ 0x4000020000100001 ∷ 0x1000020000000000 ∷ 0x5000030000200002 ∷ []) ≡ 12)
+      × (charged (0x6000010000000000 ∷ 0x6000010000000000 ∷ 0x6000010000000000 ∷ []) ≡ 3)
+  -- OPEN writes neither cell 0, its d, nor the cell that it opens, here cell 1: an EQUAL of either tells.
+  pub open-writes-none : (charged (0x3000010000200002 ∷ 0x7000000000100000 ∷ 6 ∷ 0x4000020000000000 ∷ []) ≡ 7)
+      × (charged (0x3000010000200002 ∷ 0x7000000000100000 ∷ 6 ∷ 0x4000020000100001 ∷ []) ≡ 12)
+  -- A published word is passed over, whatever it looks like: here a LESS that would be the deepest, and only that word.
+  pub published-free : (charged (0x7000000000000000 ∷ 0x3000000000000000 ∷ []) ≡ 1)
+      × (charged (0x7000000000000000 ∷ 0x7000000000000000 ∷ 0x4000000000000000 ∷ 0x4000000000000000 ∷ []) ≡ 12)
   -- "The log is the header, then every word carried out, each OPEN followed by the published cell as one word."
   pub published : (logged 0x7000000000100000 (pos 7 ∷ pos 8 ∷ pos 9 ∷ []) ≡ 0x7000000000100000 ∷ 0x0000000000000008 ∷ [])
       × (logged 0x7000000000000000 (negsuc 0 ∷ []) ≡ 0x7000000000000000 ∷ 0xFFFFFFFFFFFFFFFF ∷ [])

@@ -1,23 +1,22 @@
 -- A plan by names, carried out on a bank: each named cell holds what the store has, no other cell moves, the sums are the same.
 -- For every kind of names that have places in the bank. Rests on stores.
-use mathlib.Core.Path.{_≡_, refl, sym, ap, ap₂, subst, _∙_}
+use mathlib.Core.Path.{_≡_, refl, ap, ap₂, subst, _∙_}
 use mathlib.Core.Bool.{Bool, cond}
 use mathlib.Core.List.{List, [], _∷_, map}
 use mathlib.Core.Option.{Option, none, some}
 use Prim.Native.Nat.{ℕ, _<_, _≤_}
 use native.Mathlib.Omega.{arith}
-use borrow.Author.Tests.{ne-eqb, eqb-true, eqb-false}
+use borrow.Author.Tests.{ne-eqb}
 use lib.Dec.{eqb}
 use lib.IntN.{ℤ, pos}
-use lib.ListN.{length, set, length-set}
-use lib.Seq.{getD-set-same, getD-set-other}
+use lib.ListN.{length, length-set}
 use lib.Signed.{ltZ}
+use Rattle.fields.proofs.Sets.{set-at}
 use Rattle.machine.specs.Instruction.{Instruction, SET, COPY, ADD, LESS, EQUAL, BOTH, MOVEIF, OPEN, addresses, All}
 use Rattle.machine.specs.Effect.{Effect, writes, nothing, effect, eqZ, bit, both, pick, wrapAdd, cellAt, written, perform}
 use Rattle.plans.specs.Outline.{Outline, start, instructions}
 use Rattle.plans.proofs.Outlines.{renamed, plan-renamed}
 use Rattle.plans.proofs.Addresses.{Keeps, Kept, keeps}
-use Rattle.graph.proofs.Test.{by-test}
 use Rattle.methods.specs.Bank.{performAll, summands, asked, Summed}
 use Rattle.methods.proofs.Steps.{Claim, Runs}
 use Rattle.methods.proofs.Stores.{after, numbers}
@@ -29,12 +28,6 @@ pub record Layout (A : Type 0) (same : A → A → Bool) : Type 1 where
   pub place : A → ℕ
   pub below : (a : A) → Good a → place a < size
   pub apart : (a b : A) → Good a → Good b → eqb (place a) (place b) ≡ same a b
-
-set-at : (cells : List ℤ) (d k : ℕ) (z : ℤ) → d < length cells → cellAt (set cells d z) k ≡ cond (eqb d k) z (cellAt cells k)
-set-at cells d k z h =
-    by-test (eqb d k)
-    (λ e. rw (e, ← eqb-true d k e) (getD-set-same cells d z (pos 0) h))
-    (λ e. rw e (getD-set-other cells d k z (pos 0) (λ q. eqb-false d k e (sym q))))
 
 module _ {A : Type 0} (same : A → A → Bool) (L : Layout A same) where
   open Layout L using (size, Good, place, below, apart)
@@ -103,11 +96,11 @@ module _ {A : Type 0} (same : A → A → Bool) (L : Layout A same) where
           long = length-set cells (place d) z ∙ h .long;
           cell =
               λ a k.
-              set-at cells (place d) (place a) z (omega (arith, below d g))
+              set-at cells (place d) (place a) z (pos 0) (omega (arith, below d g))
               ∙ ap₂ (λ (b : Bool) (x : ℤ). cond b z x) (apart d a g k) (h .cell a k);
           rest =
               λ k l.
-              set-at cells (place d) k z (omega (arith, below d g))
+              set-at cells (place d) k z (pos 0) (omega (arith, below d g))
               ∙ ap (λ (b : Bool). cond b z (cellAt cells k)) (ne-eqb (place d) k (omega (arith, below d g)))
               ∙ h .rest k l;
         })

@@ -1,6 +1,6 @@
 -- A region that is filled place by place, upward: for the first time, over what it held, or row by row.
 -- Rests on graph's Test.
-use mathlib.Core.Path.{_≡_, sym, ap, _∙_}
+use mathlib.Core.Path.{_≡_, sym, subst, _∙_}
 use mathlib.Core.Bool.{cond}
 use Prim.Native.Nat.{ℕ, suc, _+_, _*_, _/_, _%_, _<_, _≤_}
 use native.Mathlib.Nat.{not-suc-le-zero}
@@ -8,7 +8,6 @@ use native.Mathlib.Omega.{arith}
 use borrow.Author.Tests.{lt-ltb, le-ltb, ltb-true, ltb-false, eq-eqb, ne-eqb, eqb-true, eqb-false}
 use lib.Arith.{digits-lt, digits-div, digits-mod}
 use lib.Dec.{ltb, eqb}
-use lib.IntN.{ℤ}
 use Rattle.graph.proofs.Test.{by-test}
 
 eqb-sym : (a b : ℕ) → eqb a b ≡ eqb b a
@@ -48,29 +47,40 @@ module _ {X : Type 0} where
     pub upto-find : (k v : ℕ) → cond (eqb v k) (new k) (upto k new old v) ≡ upto (suc k) new old v
     upto-find k v = rw (eqb-sym v k) (upto-suc k v)
 
-pub fill-none : (cell new : ℕ → ℤ) (v : ℕ) → v < 0 → cell v ≡ new v
-fill-none cell new v l = absurd (not-suc-le-zero l)
+-- What holds of every place below k holds of one place more; what holds of the places from k on holds of the rest.
+module _ {X : Type 0} (Q : ℕ → X → Type 0) (k : ℕ) where
+  pub one-more : {cell : ℕ → X} {z : X} → Q k z → ((v : ℕ) → v < k → Q v (cell v))
+      → (v : ℕ) → v < suc k → Q v (cond (eqb k v) z (cell v))
+  one-more {z = z} e h v l =
+      by-test (eqb k v)
+      (λ q. rw q (subst (λ u. Q u z) (eqb-true k v q) e))
+      (λ q. rw q (h v (omega (arith, eqb-false k v q))))
 
--- One place more.
-pub fill : {cell new : ℕ → ℤ} (k : ℕ) {z : ℤ} → z ≡ new k → ((v : ℕ) → v < k → cell v ≡ new v)
-    → (v : ℕ) → v < suc k → cond (eqb k v) z (cell v) ≡ new v
-fill {new = new} k e h v l =
-    by-test (eqb k v)
-    (λ q. rw q (e ∙ ap new (eqb-true k v q)))
-    (λ q. rw q (h v (omega (arith, eqb-false k v q))))
+  pub the-rest : {cell : ℕ → X} (z : X) (n : ℕ) → ((v : ℕ) → k ≤ v → v < n → Q v (cell v))
+      → (v : ℕ) → suc k ≤ v → v < n → Q v (cond (eqb k v) z (cell v))
+  the-rest z n h v l m = rw (ne-eqb k v (omega arith)) (h v (omega arith) m)
+
+module _ {X : Type 0} where
+  pub fill-none : (cell new : ℕ → X) (v : ℕ) → v < 0 → cell v ≡ new v
+  fill-none cell new v l = absurd (not-suc-le-zero l)
+
+  -- One place more.
+  pub fill : {cell new : ℕ → X} (k : ℕ) {z : X} → z ≡ new k → ((v : ℕ) → v < k → cell v ≡ new v)
+      → (v : ℕ) → v < suc k → cond (eqb k v) z (cell v) ≡ new v
+  fill {new = new} k = one-more (λ v x. x ≡ new v) k
 
 -- ---- a region of n places that held `old`, filled anew
 
 -- The places below k are done.
-pub record Refilled (n k : ℕ) (new old cell : ℕ → ℤ) : Type 0 where
+pub record Refilled {X : Type 0} (n k : ℕ) (new old cell : ℕ → X) : Type 0 where
   pub done : (v : ℕ) → v < k → cell v ≡ new v
   pub left : (v : ℕ) → v < n → k ≤ v → cell v ≡ old v
 
-module _ {n : ℕ} {new old cell : ℕ → ℤ} where
+module _ {X : Type 0} {n : ℕ} {new old cell : ℕ → X} where
   pub refill-none : ((v : ℕ) → v < n → cell v ≡ old v) → Refilled n 0 new old cell
   refill-none h = record { done = fill-none cell new; left = λ v l _. h v l }
 
-  pub refill : (k : ℕ) {z : ℤ} → k < n → (cell k ≡ old k → z ≡ new k) → Refilled n k new old cell
+  pub refill : (k : ℕ) {z : X} → k < n → (cell k ≡ old k → z ≡ new k) → Refilled n k new old cell
       → Refilled n (suc k) new old (λ v. cond (eqb k v) z (cell v))
   refill k l f h =
       record {
@@ -81,14 +91,14 @@ module _ {n : ℕ} {new old cell : ℕ → ℤ} where
 -- ---- a table of rows of n places, filled row by row: place v of row i is i * n + v
 
 -- The rows below i are done, and of row i the places below v.
-pub record Rows (n i v : ℕ) (new : ℕ → ℕ → ℤ) (cell : ℕ → ℤ) : Type 0 where
+pub record Rows {X : Type 0} (n i v : ℕ) (new : ℕ → ℕ → X) (cell : ℕ → X) : Type 0 where
   pub done : (p : ℕ) → p < i * n + v → cell p ≡ new (p / n) (p % n)
 
-pub rows-none : {n : ℕ} {new : ℕ → ℕ → ℤ} {cell : ℕ → ℤ} → Rows n 0 0 new cell
+pub rows-none : {X : Type 0} {n : ℕ} {new : ℕ → ℕ → X} {cell : ℕ → X} → Rows n 0 0 new cell
 rows-none = record { done = λ p l. absurd (omega arith) }
 
-module _ {n i : ℕ} {new : ℕ → ℕ → ℤ} {cell : ℕ → ℤ} where
-  pub rows-place : (v : ℕ) {z : ℤ} → v < n → z ≡ new i v → Rows n i v new cell
+module _ {X : Type 0} {n i : ℕ} {new : ℕ → ℕ → X} {cell : ℕ → X} where
+  pub rows-place : (v : ℕ) {z : X} → v < n → z ≡ new i v → Rows n i v new cell
       → Rows n i (suc v) new (λ p. cond (eqb (i * n + v) p) z (cell p))
   rows-place v l e h =
       record { done = λ p k. fill (i * n + v) (rw (digits-div i l, digits-mod i l) e) (h .done) p (omega arith) }

@@ -9,6 +9,7 @@ use lib.Signed.{_<ℤ_}
 use Rattle.machine.specs.Effect.{bit, cellAt}
 use Rattle.plans.specs.Method1 as Method1
 use Rattle.plans.specs.Method1.{D, P, X, starts, cellCount, outline}
+use Rattle.plans.proofs.Addresses.{Kept}
 use Rattle.graph.specs.Walk.{Edge}
 use Rattle.graph.specs.BellmanFord.{State, bellmanFord, slack}
 use Rattle.graph.proofs.Int.{arithℤ}
@@ -23,8 +24,11 @@ use Rattle.methods.proofs.Solved.{solved}
 use Rattle.methods.proofs.Edges.{Given, Holds}
 use Rattle.methods.proofs.Passes.{plan-runs}
 
-abbrev layout : (n m : ℕ) → Layout Name same
+abbrev pub layout : (n m : ℕ) → Layout Name same
 layout n m = regions (starts n m) (cellCount n m) (omega arith)
+
+pub kept : (far : ℤ) (n m : ℕ) → Kept (layout n m .Good) (λ z. Unit {0}) pair far n m outline
+kept far n m = search arith
 
 module _ (far limit : ℕ) (edge : ℕ → Edge) (n m source : ℕ) (cells : List ℤ) (room : Room far limit n m)
     (laid : Laid (places n m) limit edge n m source cells) where
@@ -43,7 +47,7 @@ module _ (far limit : ℕ) (edge : ℕ → Edge) (n m source : ℕ) (cells : Lis
   ran : Summed (Sum far limit) (plan far n m source) cells × Ended same (layout n m) cells (laid .enough) End left
   unfolding Method1.plan
   ran =
-      on-bank same (layout n m) cells (laid .enough) (Sum far limit) End pair (pos far) n m source outline (search arith)
+      on-bank same (layout n m) cells (laid .enough) (Sum far limit) End pair (pos far) n m source outline (kept (pos far) n m)
       (plan-runs far limit edge n m source room (laid .limited) _ given)
 
   pub method1 : Solved (places n m) far (plan far n m source) edge n m source cells left

@@ -11,6 +11,7 @@ use Rattle.machine.specs.Effect.{cellAt}
 use Rattle.plans.specs.Method2.{D, P, starts, cellCount, outline}
 use Rattle.plans.specs.Regions.{cell}
 use Rattle.plans.specs.Method2 as Method2
+use Rattle.plans.proofs.Addresses.{Kept}
 use Rattle.graph.specs.Dijkstra.{tableNetwork, fromVertex, State, turns}
 use Rattle.graph.proofs.Parents.{carried}
 use Rattle.graph.proofs.Dijkstra.{dijkstra}
@@ -22,8 +23,11 @@ use Rattle.methods.proofs.Names.{Name, same, pair, Store, regions}
 use Rattle.methods.proofs.Bits.{sum-exact}
 use Rattle.methods.proofs.Turns.{Sum, Given, Holds, plan-runs}
 
-abbrev layout : (n : ℕ) → Layout Name same
+abbrev pub layout : (n : ℕ) → Layout Name same
 layout n = regions (starts n) (cellCount n) (omega arith)
+
+pub kept : (far : ℤ) (n : ℕ) → Kept (layout n .Good) (λ z. Unit {0}) pair far n 0 outline
+kept far n = search arith
 
 module _ (far limit : ℕ) (table : ℕ → ℕ → ℕ) (n source : ℕ) (cells : List ℤ) (room : Room far limit n)
     (laid : Laid far limit table n source cells) where
@@ -49,7 +53,7 @@ module _ (far limit : ℕ) (table : ℕ → ℕ → ℕ) (n source : ℕ) (cells
   ran : Summed Sum (plan far n source) cells × Ended same (layout n) cells (laid .enough) End left
   unfolding Method2.plan
   ran =
-      on-bank same (layout n) cells (laid .enough) Sum End pair (pos far) n 0 source outline (search arith)
+      on-bank same (layout n) cells (laid .enough) Sum End pair (pos far) n 0 source outline (kept (pos far) n)
       (plan-runs far table n source most (room .fits) _ given)
 
   dist : (v : ℕ) → v < n → cellAt left (cell (starts n) (D v)) ≡ pos (final .dist v)

@@ -10,6 +10,7 @@ use lib.Signed.{_<ℤ_}
 use Rattle.machine.specs.Effect.{bit, cellAt}
 use Rattle.plans.specs.Method3 as Method3
 use Rattle.plans.specs.Method3.{D, P, X, starts, cellCount, outline}
+use Rattle.plans.proofs.Addresses.{Kept}
 use Rattle.graph.specs.Walk.{Edge}
 use Rattle.graph.specs.BellmanFord.{State}
 use Rattle.graph.specs.Jacobi.{jacobi, slack, Sorted, Synchronous}
@@ -26,8 +27,12 @@ use Rattle.methods.proofs.Solved.{solved}
 use Rattle.methods.proofs.Sweeps.{Given, Holds}
 use Rattle.methods.proofs.Jacobi.{plan-runs}
 
-abbrev layout : (n m : ℕ) → Layout Name same
+abbrev pub layout : (n m : ℕ) → Layout Name same
 layout n m = regions (starts n m) (cellCount n m) (omega arith)
+
+-- A call of `search` takes so many steps only: one for each of the outline's first parts.
+pub kept : (far : ℤ) (n m : ℕ) → Kept (layout n m .Good) (λ z. Unit {0}) pair far n m outline
+kept far n m = (search arith, (search arith, (search arith, (search arith, search arith))))
 
 module _ (far limit : ℕ) (edge : ℕ → Edge) (n m source : ℕ) (cells : List ℤ) (room : Room far limit n)
     (laid : Laid (places n m) limit edge n m source cells) (sorted : Sorted edge m) where
@@ -43,12 +48,10 @@ module _ (far limit : ℕ) (edge : ℕ → Edge) (n m source : ℕ) (cells : Lis
   given : Given edge m (λ a. cellAt cells (layout n m .place a))
   given = record { from = laid .from; to = laid .to; weight = laid .weight }
 
-  -- A call of `search` takes so many steps only: one for each of the outline's first parts.
   ran : Summed (Sum far limit) (plan far n m source) cells × Ended same (layout n m) cells (laid .enough) End left
   unfolding Method3.plan
   ran =
-      on-bank same (layout n m) cells (laid .enough) (Sum far limit) End pair (pos far) n m source outline
-      (search arith, (search arith, (search arith, (search arith, search arith))))
+      on-bank same (layout n m) cells (laid .enough) (Sum far limit) End pair (pos far) n m source outline (kept (pos far) n m)
       (plan-runs far limit edge n m source room (laid .limited) sorted (laid .source-below) _ given)
 
   dist : (v : ℕ) → v < n → cellAt left (places n m .dist v) ≡ final .dist v

@@ -1,4 +1,4 @@
--- What follows from a header, and how large the parts of a plan's length get. Rests on the laws of plans.
+-- What follows from a header, and how large the parts of a plan's length and rounds get. Rests on the laws of plans.
 use mathlib.Core.Path.{_≡_, refl}
 use mathlib.Core.Option.{Option, none, some}
 use Prim.Native.Nat.{ℕ, _+_, _-_, _*_, _≤_}
@@ -22,7 +22,7 @@ method-three =
 
 -- ---- the length's parts
 
--- Those of the lengths and of the cells, for n vertices and m edges.
+-- Those of the lengths, of the rounds and of the cells, for n vertices and m edges.
 pub record Sizes (n m : ℕ) : Type 0 where
   pub few : n ≤ 32
   pub edges-few : m ≤ 128
@@ -30,6 +30,7 @@ pub record Sizes (n m : ℕ) : Type 0 where
   pub cube : n * n * n ≤ 32768
   pub entries : n * m ≤ 4096
   pub words1 : m * (8 * (n * n) + 3 * n - 1) ≤ 1060736
+  pub rounds1 : m * (n * n + 9 * n - 9) ≤ 166784
   pub words3 : m * (3 * (n * n) + 10 * n - 1) ≤ 434048
 
 pub sizes : (h : Header) → Accepted h → Sizes (h .vertices) (h .edges)
@@ -44,6 +45,7 @@ sizes h a =
       cube = cube-le (h .vertices) few;
       entries = mul-le-mul {n₁ = h .vertices} {m₁ = h .edges} {n₂ = 32} {m₂ = 128} few edges-few;
       words1 = edges-le (h .edges) edges-few _ 8287 (omega arith);
+      rounds1 = edges-le (h .edges) edges-few _ 1303 (omega arith);
       words3 = edges-le (h .edges) edges-few _ 3391 (omega arith);
     }
 

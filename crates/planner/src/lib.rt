@@ -12,7 +12,7 @@ ghost use mathlib.Core.Path.{_≡_};
 ghost use Prim.Native.Nat.{_≤_};
 ghost use lib.ListN.{length, drop};
 ghost use Rattle.plans.specs.Limits.{knownMethod, mostEdges};
-ghost use Rattle.plans.specs.Plan.{headerOf, Accepted, planOf, lengthOf};
+ghost use Rattle.plans.specs.Plan.{headerOf, Accepted, planOf, lengthOf, roundsOfPlan};
 ghost use Rattle.tables.specs.Writing.{Wrote};
 ghost use Rattle.answers.specs.Refusal.{found};
 ghost use Rattle.answers.specs.Buffers.{overwritten};
@@ -109,6 +109,19 @@ pub fn figures_of(h: Header) -> Figures
         1 => method1::figures(h),
         2 => method2::figures(h),
         _ => method3::figures(h),
+    }
+}
+
+// The rounds of the header's plan, and so of every run of it.
+pub fn rounds_of(h: Header) -> u64
+    requires { ⌜ Accepted h ⌝ }
+    ensures { λ r. ⌜ r ≡ roundsOfPlan h ⌝ }
+{
+    let method = h.method;
+    match method {
+        1 => method1::rounds(h),
+        2 => method2::rounds(h),
+        _ => method3::rounds(h),
     }
 }
 

@@ -26,7 +26,7 @@ use rows::VERTICES;
 ghost use mathlib.Core.Path.{_≡_};
 ghost use Prim.Native.Nat.{_≤_};
 ghost use lib.ListN.{length, drop};
-ghost use Rattle.plans.specs.Plan.{Accepted, planOf, lengthOf};
+ghost use Rattle.plans.specs.Plan.{Accepted, planOf, lengthOf, roundsOfPlan};
 ghost use Rattle.tables.specs.Writing.{Wrote};
 ghost use Rattle.planner.specs.Figures.{figuresOf};
 
@@ -47,6 +47,14 @@ pub fn figures(h: Header) -> Figures
             count: n,
         },
     }
+}
+
+pub fn rounds(h: Header) -> u64
+    requires { ⌜ Accepted h × (h .method ≡ 2) ⌝ }
+    ensures { λ r. ⌜ r ≡ roundsOfPlan h ⌝ }
+{
+    let n = h.vertices;
+    9 * (n * n) + 13 * n + 1
 }
 
 const U: u64 = 4 << 11;

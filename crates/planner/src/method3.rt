@@ -29,7 +29,7 @@ use rows::VERTICES;
 ghost use mathlib.Core.Path.{_≡_};
 ghost use Prim.Native.Nat.{_≤_};
 ghost use lib.ListN.{length, drop};
-ghost use Rattle.plans.specs.Plan.{Accepted, planOf, lengthOf};
+ghost use Rattle.plans.specs.Plan.{Accepted, planOf, lengthOf, roundsOfPlan};
 ghost use Rattle.tables.specs.Writing.{Wrote};
 ghost use Rattle.planner.specs.Figures.{figuresOf};
 
@@ -51,6 +51,18 @@ pub fn figures(h: Header) -> Figures
             count: n,
         },
     }
+}
+
+pub fn rounds(h: Header) -> u64
+    requires { ⌜ Accepted h × (h .method ≡ 3) ⌝ }
+    ensures { λ r. ⌜ r ≡ roundsOfPlan h ⌝ }
+{
+    let n = h.vertices;
+    let m = h.edges;
+    if m == 0 {
+        return 8 * n + 1;
+    }
+    9 * (n * m) + n * n + 8 * n + 7
 }
 
 const FROM: u64 = 4 << 11;

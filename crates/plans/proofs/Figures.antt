@@ -1,55 +1,50 @@
--- The figures of documents 01 and 02: a plan's length and its rounds, for every header and for the largest ones; and where method 3's regions begin.
--- Rests on the plans' weights and on the machine's laws of words.
+-- The figures of documents 01 and 02: a plan's length, for every header, and its length and rounds for the largest ones; and where method 3's regions
+-- begin. Rests on the plans' weights.
 use mathlib.Core.Path.{_≡_, refl, ap, _∙_}
 use mathlib.Core.List.{[], _∷_}
-use Prim.Native.Nat.{ℕ, _+_, _-_, _*_, _<_, _≤_}
+use Prim.Native.Nat.{ℕ, suc, _+_, _-_, _*_, _<_, _≤_}
 use native.Mathlib.Nat.{mul-sub}
 use native.Mathlib.Omega.{arith}
-use lib.ListN.{length, getD, drop}
-use Rattle.machine.specs.Instruction.{Instruction, opOf}
-use Rattle.machine.specs.Word.{Fits, encode}
-use Rattle.machine.specs.Log.{rounds, roundsOf, sumOf}
-use Rattle.machine.proofs.Encoded.{rounds-encode}
+use lib.ListN.{length}
+use Rattle.machine.specs.Log.{sumOf}
 use Rattle.plans.specs.declared.Header.{Header}
 use Rattle.plans.specs.Limits.{far}
-use Rattle.plans.specs.Regions.{address}
+use Rattle.plans.specs.Outline.{start}
+use Rattle.plans.specs.Method1 as Method1
+use Rattle.plans.specs.Method2 as Method2
 use Rattle.plans.specs.Method3 as Method3
 use Rattle.plans.specs.Plan.{Accepted, instructionsOf, planOf, lengthOf, roundsOfPlan}
-use Rattle.plans.proofs.Blocks.{sum-ones, sum-map}
-use Rattle.plans.proofs.Weights.{plan1-weight, plan2-weight, plan3-weight}
+use Rattle.plans.proofs.Blocks.{sum-ones}
+use Rattle.plans.proofs.Weights.{outline-weight}
 use Rattle.plans.proofs.Bounds.{square-le, cube-le, edges-le}
 use Rattle.plans.proofs.Headers.{header, by-method, plan-length}
-use Rattle.plans.proofs.Addresses.{fits-plan}
 
--- The column, by op.
-abbrev charge : {A : Type 0} → Instruction A → ℕ
-charge i = getD rounds (opOf i) 0
+-- ---- lengths: an instruction weighs 1
 
-figures : (h : Header) → Accepted h
-    → (sumOf (λ i. 1) (instructionsOf h) + 1 ≡ lengthOf h) × (sumOf charge (instructionsOf h) ≡ roundsOfPlan h)
-unfolding instructionsOf lengthOf roundsOfPlan
-figures =
-    by-method
-    (λ h. (sumOf (λ i. 1) (instructionsOf h) + 1 ≡ lengthOf h) × (sumOf charge (instructionsOf h) ≡ roundsOfPlan h))
-    (λ n m source a. (
-      ap (λ k. k + 1) (plan1-weight _ far n (λ op. 1) m source (a .vertices-some)) ∙ simp mul-sub (omega arith),
-      plan1-weight _ far n (λ op. getD rounds op 0) m source (a .vertices-some) ∙ simp mul-sub (omega arith),
-    ))
-    (λ n source a. (
-      ap (λ k. k + 1) (plan2-weight _ far n (λ op. 1) source) ∙ omega arith,
-      plan2-weight _ far n (λ op. getD rounds op 0) source ∙ omega arith,
-    ))
-    (λ n m source a. (
-      simp mul-sub (omega (arith, simp mul-sub at (plan3-weight (address (Method3.starts n m)) far n (λ op. 1) m source (a .vertices-some)))),
-      omega (arith, simp mul-sub at (plan3-weight (address (Method3.starts n m)) far n (λ op. getD rounds op 0) m source (a .vertices-some))),
-    ))
+length1 : (name : (region place : ℕ) → ℕ) (n m source : ℕ) → 0 < n
+    → sumOf (λ i. 1) (Method1.plan name far n m source) + 1 ≡ 3 * n + 4 + m * (8 * (n * n) + 3 * n - 1)
+unfolding Method1.plan sumOf
+length1 name (suc n) m source some =
+    let e : suc n - 1 ≡ n = omega arith in
+    ap (λ k. k + 1) (outline-weight name far (suc n) m source (λ op. 1) Method1.outline start) ∙ simp (e, mul-sub) (omega arith)
+
+length3 : (name : (region place : ℕ) → ℕ) (n m source : ℕ) → 0 < n
+    → sumOf (λ i. 1) (Method3.plan name far n m source) + 1 ≡ 3 * (n * n) + 3 * n + 5 + m * (3 * (n * n) + 10 * n - 1)
+unfolding Method3.plan sumOf
+length3 name (suc n) m source some =
+    let e : suc n - 1 ≡ n = omega arith in
+    ap (λ k. k + 1) (outline-weight name far (suc n) m source (λ op. 1) Method3.outline start) ∙ simp (e, mul-sub) (omega arith)
+
+lengths : (h : Header) → Accepted h → sumOf (λ i. 1) (instructionsOf h) + 1 ≡ lengthOf h
+unfolding instructionsOf lengthOf Method2.plan sumOf
+lengths =
+    by-method (λ h. sumOf (λ i. 1) (instructionsOf h) + 1 ≡ lengthOf h)
+    (λ n m source a. length1 _ n m source (a .vertices-some))
+    (λ n source a. ap (λ k. k + 1) (outline-weight _ far n 0 source (λ op. 1) Method2.outline start) ∙ omega arith)
+    (λ n m source a. length3 _ n m source (a .vertices-some))
 
 pub length-plan : (h : Header) → Accepted h → length (planOf h) ≡ lengthOf h
-length-plan h a = omega (arith, plan-length h, sum-ones (instructionsOf h), figures h a .0)
-
-pub rounds-plan : (h : Header) → Accepted h → sumOf roundsOf (drop 1 (planOf h)) ≡ roundsOfPlan h
-unfolding planOf
-rounds-plan h a = sum-map Fits charge encode roundsOf rounds-encode (instructionsOf h) (fits-plan h a) ∙ figures h a .1
+length-plan h a = omega (arith, plan-length h, sum-ones (instructionsOf h), lengths h a)
 
 -- No plan is longer than the largest one of method 1.
 pub length-most : (h : Header) → Accepted h → lengthOf h ≤ 1060836
@@ -66,15 +61,15 @@ length-most =
 
 -- ---- the largest plans
 
-pub largest1 : (s : ℕ) → (lengthOf (header 1 32 128 s) ≡ 1060836) × (roundsOfPlan (header 1 32 128 s) ≡ 3039203)
+pub largest1 : (s : ℕ) → (lengthOf (header 1 32 128 s) ≡ 1060836) × (roundsOfPlan (header 1 32 128 s) ≡ 166832)
 unfolding lengthOf roundsOfPlan
 largest1 s = (refl, refl)
 
-pub largest2 : (s : ℕ) → (lengthOf (header 2 32 0 s) ≡ 44227) × (roundsOfPlan (header 2 32 0 s) ≡ 57506)
+pub largest2 : (s : ℕ) → (lengthOf (header 2 32 0 s) ≡ 44227) × (roundsOfPlan (header 2 32 0 s) ≡ 9633)
 unfolding lengthOf roundsOfPlan
 largest2 s = (refl, refl)
 
-pub largest3 : (s : ℕ) → (lengthOf (header 3 32 128 s) ≡ 437221) × (roundsOfPlan (header 3 32 128 s) ≡ 516708)
+pub largest3 : (s : ℕ) → (lengthOf (header 3 32 128 s) ≡ 437221) × (roundsOfPlan (header 3 32 128 s) ≡ 38151)
 unfolding lengthOf roundsOfPlan
 largest3 s = (refl, refl)
 

@@ -1,10 +1,10 @@
 -- The plan of a header, as words: it follows from the header alone. Its length, its rounds, the cells it needs and those that results are
 -- copied from, as document 01 gives them. Rests on the methods' plans and on the machine's words.
-use mathlib.Core.Bool.{Bool, _&&_}
+use mathlib.Core.Bool.{Bool, _&&_, cond}
 use mathlib.Core.List.{List, [], _∷_, map}
 use mathlib.Core.Option.{Option, none, some}
 use Prim.Native.Nat.{ℕ, _+_, _-_, _*_, _<_, _≤_}
-use lib.Dec.{T}
+use lib.Dec.{T, eqb}
 use Rattle.fields.specs.Fields.{fieldOf}
 use Rattle.machine.specs.Instruction.{Instruction}
 use Rattle.machine.specs.Word.{packed, encode}
@@ -96,7 +96,7 @@ abbrev pub published : Option ℕ → (verdict : ℕ) → List ℕ
 published none verdict = []
 published (some cell) verdict = verdict ∷ []
 
--- Its length, and the sum of its rounds.
+-- Its length.
 unfoldable pub lengthOf : Header → ℕ
 lengthOf h =
     let n = h .vertices in
@@ -107,12 +107,13 @@ lengthOf h =
     ∷ (3 * (n * n) + 3 * n + 5 + m * (3 * (n * n) + 10 * n - 1))
     ∷ [])
 
+-- Its rounds, the greatest depth of its words (document 02, ask 4).
 unfoldable pub roundsOfPlan : Header → ℕ
 roundsOfPlan h =
     let n = h .vertices in
     let m = h .edges in
     byMethod (h .method) 0
-    ((3 * n + 3 + m * (23 * (n * n) + 6 * n - 1))
-    ∷ (n * n * n + 24 * (n * n) + 5 * n + 2)
-    ∷ (8 * (n * n) + 3 * n + 4 + m * (3 * (n * n) + 28 * n + 4))
+    (cond (eqb m 0) 2 (m * (n * n + 9 * n - 9) + n + 16)
+    ∷ (9 * (n * n) + 13 * n + 1)
+    ∷ cond (eqb m 0) (8 * n + 1) (9 * (n * m) + n * n + 8 * n + 7)
     ∷ [])

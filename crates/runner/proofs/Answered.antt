@@ -1,25 +1,25 @@
--- What the runner answers and leaves, by the ways out of `run_plan`. Rests on Sized, PlanWithin, charge's Weighed and machine's
--- Replayed.
-use mathlib.Core.Path.{_≡_, refl}
-use mathlib.Core.List.{List}
+-- What the runner answers and leaves, by the ways out of `run_plan`. Rests on Sized, Foreign, PlanWithin, Worked and machine's Replayed.
+use mathlib.Core.Path.{_≡_, refl, ap, _∙_}
+use mathlib.Core.List.{List, _++_}
 use mathlib.Core.Option.{Option, none, some}
 use Prim.Native.Nat.{ℕ, _^_, _<_, _≤_}
 use native.Mathlib.Omega.{arith}
 use lib.IntN.{ℤ}
-use lib.ListN.{length, drop, length-drop}
+use lib.ListN.{length, drop}
 use borrow.Author.Tests.{le-leb, lt-leb}
 use Rattle.answers.specs.declared.Refusal.{Refusal}
 use Rattle.answers.specs.Refusal.{Log, Operation}
-use Rattle.machine.specs.Log.{Admitted, logOf, rounds}
+use Rattle.answers.specs.Buffers.{overwritten}
+use Rattle.machine.specs.Log.{Admitted, cellsAfter, logOf}
 use Rattle.machine.proofs.Replayed.{charge-log}
-use Rattle.charge.specs.Tally.{weighed}
-use Rattle.charge.proofs.Weighed.{weighed-tallies, fits}
+use Rattle.charge.specs.Worked.{WorkedOut}
 use Rattle.runner.specs.declared.PlanAnswer.the-variants.{Ran, Refused}
 use Rattle.runner.specs.declared.Found.the-variants.{At, Nothing}
 use Rattle.runner.specs.Runner.{firstBad, foundOf, logSize, runnerRefusal, CarriedOut, planOutcome, MetPlan}
 use Rattle.runner.proofs.Sized.{log-size}
 use Rattle.runner.proofs.Foreign.{admitted, refused-plan}
 use Rattle.runner.proofs.PlanWithin.{allowed-from, few-words}
+use Rattle.runner.proofs.Worked.{shorter, kept-further}
 
 some-of : (o : Option ℕ) (k : ℕ) → At k ≡ foundOf o → o ≡ some k
 some-of none k e = let z : _≡_ {A = ℕ} 0 1 = cc in let no : ⊥ = omega arith in absurd no
@@ -47,26 +47,32 @@ module _ (plan : List ℕ) (cells : List ℤ) (log : List ℕ) where
     unfolding runnerRefusal
     too-short l = refused Log (rw (clear, lt-leb (logSize plan) (length log) (omega arith)))
 
-    pub can-carry : size ≤ length log → Admitted (length cells) (drop 1 plan) × (length (logOf plan cells) ≤ length log)
-    can-carry l = (admitted plan (length cells) clear, omega (arith, log-size plan cells))
+    -- So few words that `rounds_of` can work their depths out, in a log so long.
+    pub can-work-out : size ≤ length log
+        → Admitted (length cells) (drop 1 plan) × (length plan ≤ 2 ^ 24) × (length plan ≤ length log)
+    unfolding logSize
+    can-work-out l =
+        (admitted plan (length cells) clear, few-words plan (length cells) (allowed-from plan (length cells) clear), omega arith)
 
-    -- What `carry_plan` says of the tallies, the cells and the log.
-    module _ {tallies : List ℕ} {cells′ : List ℤ} {log′ : List ℕ} (done : CarriedOut plan cells log tallies cells′ log′) where
-      -- The runner takes 16,777,215 operation words at most, so that their charge fits.
-      pub rounds-fit : weighed tallies rounds < 2 ^ 64
-      rounds-fit =
-          let few = few-words plan (length cells) (allowed-from plan (length cells) clear) in
-          fits (drop 1 plan) tallies (done .tallied) (omega (arith, length-drop 1 plan))
+    -- What `rounds_of` leaves: the cells, and a log as long.
+    module _ (l : size ≤ length log) {rounds : ℕ} {cells₁ : List ℤ} {log₁ : List ℕ} (worked : WorkedOut (drop 1 plan) cells log rounds cells₁ log₁) where
+      pub can-carry : length log₁ ≡ length log → Admitted (length cells₁) (drop 1 plan) × (length (logOf plan cells₁) ≤ length log₁)
+      can-carry long = rw (worked .cells-stay) (admitted plan (length cells) clear, omega (arith, log-size plan cells))
 
-      pub ran : size ≤ length log → (sum : ℕ) → sum ≡ weighed tallies rounds
-          → MetPlan (planOutcome plan cells log) (Ran (record { rounds = sum; length = size })) cells′ log′
-      unfolding runnerRefusal planOutcome
-      ran l sum weighs =
+      -- Then `carry_plan` has carried the plan out on them.
+      pub ran : {cells′ : List ℤ} {log′ : List ℕ} → CarriedOut plan cells₁ log₁ cells′ log′
+          → MetPlan (planOutcome plan cells log) (Ran (record { rounds = rounds; length = size })) cells′ log′
+      unfolding runnerRefusal planOutcome logSize
+      ran done =
           let r : runnerRefusal plan (length cells) (length log) ≡ none
           = rw (clear, le-leb (logSize plan) (length log) (omega arith)) in
           rw r
           (record {
-            answers = rw (weighs, done .tallied, weighed-tallies, is, charge-log plan cells, log-size plan cells);
-            cells-left = done .cells-left;
-            log-left = done .log-left;
+            answers = rw (worked .charged, is, charge-log plan cells, log-size plan cells);
+            cells-left = done .cells-left ∙ ap (cellsAfter (drop 1 plan)) (worked .cells-stay);
+            log-left =
+                done .log-left
+                ∙ ap (λ (cells : List ℤ). overwritten (logOf plan cells) log₁) (worked .cells-stay)
+                ∙ ap (λ (rest : List ℕ). logOf plan cells ++ rest)
+                (kept-further log log₁ (length (drop 1 plan)) (length (logOf plan cells)) (omega (arith, log-size plan cells, shorter plan)) (worked .log-beyond));
           })

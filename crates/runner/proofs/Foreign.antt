@@ -18,7 +18,8 @@ use Rattle.answers.specs.Buffers.{overwritten}
 use Rattle.answers.proofs.Unmet.{need-none, orElse-none}
 use Rattle.machine.specs.Instruction.{All}
 use Rattle.machine.specs.Effect.{cellAt}
-use Rattle.machine.specs.Log.{Admitted, Spares, cellsAfter, logOf, replay, withoutPublished, chargeOf}
+use Rattle.machine.specs.Log.{Admitted, Spares, cellsAfter, logOf, replay, withoutPublished}
+use Rattle.machine.specs.Depth.{chargeOf}
 use Rattle.machine.proofs.Carried.{length-after, spared-after}
 use Rattle.machine.proofs.Replayed.{replay-log, words-log}
 use Rattle.runner.specs.Runner.{badAt, firstBad, operationAt, logSize, runnerRefusal, planOutcome, planRounds, planLength, planLog}

@@ -1,9 +1,9 @@
 pub mod Facts
 pub mod Sized
 pub mod Lowest
-pub mod Tallying
 pub mod Turn
 pub mod Foreign
 pub mod PlanWithin
+pub mod Worked
 pub mod Answered
 pub mod Refused

@@ -45,7 +45,7 @@ pub record Facts : Type 0 where
   -- 7 where the log is one word short; a published cell is a word of it, the last of three just fits. A header that looks like OPEN opens nothing.
   pub room : (planAnswered (0 ∷ 0x7000000000000000 ∷ []) ≡ ranPlan 1 3)
       × (planAnswered (0 ∷ 0x1000000000000000 ∷ 0x7000000000000000 ∷ []) ≡ byNumber 7)
-      × (planAnswered (0x7000000000000000 ∷ 0 ∷ 0 ∷ []) ≡ ranPlan 2 3)
+      × (planAnswered (0x7000000000000000 ∷ 0 ∷ 0 ∷ []) ≡ ranPlan 1 3)
       × (planOutcome (0 ∷ []) [] [] .answer ≡ byNumber 7)
       × (planOutcome (0 ∷ []) [] (9 ∷ []) .answer ≡ ranPlan 0 1)
   -- "an empty plan writes an empty log", whatever is lent.
@@ -55,10 +55,17 @@ pub record Facts : Type 0 where
   pub runs : planOutcome (0x0000020000000005 ∷ 0x000001FFFFFFFFFF ∷ 0x3000000000100000 ∷ 0x7000000000100000 ∷ [])
       (pos 7 ∷ pos 8 ∷ pos 9 ∷ []) (9 ∷ 9 ∷ 9 ∷ 9 ∷ 9 ∷ 9 ∷ [])
       ≡ record {
-        answer = ranPlan 8 5;
+        answer = ranPlan 7 5;
         cells = pos 1 ∷ negsuc 0 ∷ pos 9 ∷ [];
         log = 0x0000020000000005 ∷ 0x000001FFFFFFFFFF ∷ 0x3000000000100000 ∷ 0x7000000000100000 ∷ 0xFFFFFFFFFFFFFFFF ∷ 9 ∷ [];
       }
+  -- Document 02, ask 4: a word after one that it does not depend on, and after one that it does; MOVEIF "whatever [a] holds", here 0 and 7, an EQUAL
+  -- of its cell tells; a published cell that looks like a LESS.
+  pub rounds : (planAnswered (0 ∷ 0x3000010000000000 ∷ 0x3000000000000000 ∷ []) ≡ ranPlan 6 3)
+      × (planAnswered (0 ∷ 0x3000010000000000 ∷ 0x3000000000100001 ∷ []) ≡ ranPlan 12 3)
+      × (planOutcome (0 ∷ 0x6000010000000000 ∷ 0x4000000000100001 ∷ []) (pos 0 ∷ pos 8 ∷ []) (9 ∷ 9 ∷ 9 ∷ []) .answer ≡ ranPlan 7 3)
+      × (planOutcome (0 ∷ 0x6000010000000000 ∷ 0x4000000000100001 ∷ []) (pos 7 ∷ pos 8 ∷ []) (9 ∷ 9 ∷ 9 ∷ []) .answer ≡ ranPlan 7 3)
+      × (planOutcome (0 ∷ 0x7000000000000000 ∷ []) (pos 0x3000000000000000 ∷ []) (9 ∷ 9 ∷ 9 ∷ []) .answer ≡ ranPlan 1 3)
   -- "any other refusal only its number and .. place, and changes no lent buffer, in the runner .. too": of a plan whose first word would write.
   pub refuses : (planOutcome (0 ∷ 0 ∷ 0x8000000000000000 ∷ []) (pos 7 ∷ []) (9 ∷ 9 ∷ 9 ∷ [])
       ≡ record { answer = atPlace 9 2; cells = pos 7 ∷ []; log = 9 ∷ 9 ∷ 9 ∷ [] })

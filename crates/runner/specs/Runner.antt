@@ -1,5 +1,5 @@
 -- The runner (document 01, "Who caused it": the sender of a foreign plan): what it refuses, and what it answers and leaves.
--- Rests on logs, tallies and refusals.
+-- Rests on logs, depths and refusals.
 use mathlib.Core.Path.{_≡_}
 use mathlib.Core.Bool.{Bool, not, _||_, cond}
 use mathlib.Core.List.{List, [], _∷_}
@@ -13,8 +13,8 @@ use Rattle.answers.specs.Refusal.{Log, Operation, need, orElse}
 use Rattle.answers.specs.Told.{Told, refused}
 use Rattle.answers.specs.Buffers.{overwritten}
 use Rattle.machine.specs.Word.{admissible}
-use Rattle.machine.specs.Log.{opens, cellsAfter, logOf, sumOf, chargeOf}
-use Rattle.charge.specs.Tally.{talliesOf}
+use Rattle.machine.specs.Log.{opens, cellsAfter, logOf, sumOf}
+use Rattle.machine.specs.Depth.{chargeOf}
 use Rattle.runner.specs.declared.PlanAnswer.{PlanAnswer}
 use Rattle.runner.specs.declared.PlanAnswer.the-variants.{Ran, Refused}
 use Rattle.runner.specs.declared.Found.{Found}
@@ -50,9 +50,8 @@ runnerRefusal plan count room =
 
 -- ---- a plan carried out
 
--- What a plan's words, each carried out once and in order, leave in the cells and write to the log; and how many there were of each op.
-pub record CarriedOut (plan : List ℕ) (cells₀ : List ℤ) (log₀ tallies : List ℕ) (cells : List ℤ) (log : List ℕ) : Type 0 where
-  pub tallied : tallies ≡ talliesOf (drop 1 plan)
+-- What a plan's words, each carried out once and in order, leave in the cells and write to the log.
+pub record CarriedOut (plan : List ℕ) (cells₀ : List ℤ) (log₀ : List ℕ) (cells : List ℤ) (log : List ℕ) : Type 0 where
   pub cells-left : cells ≡ cellsAfter (drop 1 plan) cells₀
   pub log-left : log ≡ overwritten (logOf plan cells₀) log₀
 

@@ -2,10 +2,10 @@
 // Rests on answers, charge, fields and machine.
 use answers::Refusal;
 ghost use mathlib.Core.Path.{_≡_};
-ghost use Prim.Native.Nat.{_≤_};
+ghost use Prim.Native.Nat.{_^_, _≤_};
 ghost use lib.ListN.{length, drop};
 ghost use Rattle.machine.specs.Log.{Admitted, cellsAfter, logOf};
-ghost use Rattle.charge.specs.Tally.{talliesOf};
+ghost use Rattle.charge.specs.Worked.{WorkedOut};
 ghost use Rattle.runner.specs.Runner.{badAt, firstBad, foundOf, logSize, CarriedOut, planOutcome, MetPlan};
 
 // What a run of a plan answers: its rounds, and the words of its log.
@@ -66,30 +66,25 @@ fn log_length(plan: &[u64]) -> usize
     size
 }
 
-// Words that the cells admit, but for the first one, a header, carried out in order, each once; their tallies by op.
-pub fn carry_words(words: &[u64], cells: &mut [i64]) -> [u64; 8]
+// Words that the cells admit, but for the first one, a header, carried out in order, each once.
+pub fn carry_words(words: &[u64], cells: &mut [i64])
     requires { ⌜ Admitted (length (now cells)) (drop 1 (now words)) ⌝ }
-    ensures { λ r. ⌜ (r ≡ talliesOf (drop 1 (now (words .entry)))) × (now (cells .exit) ≡ cellsAfter (drop 1 (now (words .entry))) (now (cells .entry))) ⌝ }
+    ensures { λ _. ⌜ now (cells .exit) ≡ cellsAfter (drop 1 (now (words .entry))) (now (cells .entry)) ⌝ }
 {
-    let mut tallies = [0u64; 8];
     let mut at: usize = 1;
     while at < words.len() {
-        let next = words[at];
-        machine::step(cells, next);
-        charge::tally(&mut tallies, next);
+        machine::step(cells, words[at]);
         at += 1;
     }
-    tallies
 }
 
-// The plan's operation words carried out in order, each once, and logged; their tallies by op.
-fn carry_plan(plan: &[u64], cells: &mut [i64], log: &mut [u64]) -> [u64; 8]
+// The plan's operation words carried out in order, each once, and logged.
+fn carry_plan(plan: &[u64], cells: &mut [i64], log: &mut [u64])
     requires { ⌜ Admitted (length (now cells)) (drop 1 (now plan)) × (length (logOf (now plan) (now cells)) ≤ length (now log)) ⌝ }
-    ensures { λ r. ⌜ CarriedOut (now (plan .entry)) (now (cells .entry)) (now (log .entry)) r (now (cells .exit)) (now (log .exit)) ⌝ }
+    ensures { λ _. ⌜ CarriedOut (now (plan .entry)) (now (cells .entry)) (now (log .entry)) (now (cells .exit)) (now (log .exit)) ⌝ }
 {
-    let mut tallies = [0u64; 8];
     if plan.len() == 0 {
-        return tallies;
+        return;
     }
     log[0] = plan[0];
     let mut at: usize = 1;
@@ -98,10 +93,19 @@ fn carry_plan(plan: &[u64], cells: &mut [i64], log: &mut [u64]) -> [u64; 8]
         let word = plan[k];
         at = machine::append(cells, log, at, word);
         machine::step(cells, word);
-        charge::tally(&mut tallies, word);
         k += 1;
     }
-    tallies
+}
+
+// The rounds of a plan, before it is carried out.
+fn rounds_of(plan: &[u64], cells: &mut [i64], log: &mut [u64]) -> u64
+    requires { ⌜ Admitted (length (now cells)) (drop 1 (now plan)) × (length (now plan) ≤ 2 ^ 24) × (length (now plan) ≤ length (now log)) ⌝ }
+    ensures { λ r. ⌜ WorkedOut (drop 1 (now (plan .entry))) (now (cells .entry)) (now (log .entry)) r (now (cells .exit)) (now (log .exit)) ⌝ }
+{
+    if plan.len() == 0 {
+        return 0;
+    }
+    charge::depth_of(&plan[1..], cells, log)
 }
 
 // A foreign plan run: refusal 9 with the lowest place, then 7; refused, the buffers stay.
@@ -115,8 +119,8 @@ pub fn run_plan(plan: &[u64], cells: &mut [i64], log: &mut [u64]) -> PlanAnswer
     if log.len() < size {
         return PlanAnswer::Refused(answers::LOG);
     }
-    let tallies = carry_plan(plan, cells, log);
-    let rounds = charge::rounds_of(tallies);
+    let rounds = rounds_of(plan, cells, log);
+    carry_plan(plan, cells, log);
     PlanAnswer::Ran(PlanReport {
         rounds,
         length: size,

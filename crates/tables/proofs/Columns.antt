@@ -9,7 +9,7 @@ use native.Mathlib.Omega.{arith}
 use lib.Arith.{digits-lt, digits-mod}
 use lib.ListN.{length, getD, set, length-set, List·getD-append}
 use lib.Seq.{sets, length-sets, getD-set-same, getD-set-other, getD-append-add, ext-getD}
-use Rattle.machine.specs.Instruction.{All}
+use Rattle.machine.proofs.Every.{all-at}
 use Rattle.plans.specs.Blocks.{flat}
 use Rattle.rows.proofs.Blocks.{flat-length}
 use Rattle.rows.proofs.Read.{sets-before, sets-in, sets-after}
@@ -126,11 +126,6 @@ flat-at size f same (suc count) j c h l =
     ∙ flat-at size f same count j c e l)
     (eq-or-lt-of-le (le-of-suc-le-suc h))
 
-all-at : (P : ℕ → Type 0) (xs : List ℕ) (i : ℕ) → All P xs → i < length xs → P (getD xs i 0)
-all-at P [] i a h = absurd (not-suc-le-zero h)
-all-at P (x ∷ xs) zero a h = a .0
-all-at P (x ∷ xs) (suc i) a h = all-at P xs i (a .1) (le-of-suc-le-suc h)
-
 module _ (w : (c j : ℕ) → ℕ) (size count at : ℕ) (before : List ℕ) where
   abbrev words : List ℕ
   words = flat count (λ j. flat size (λ c. w c j ∷ []))
@@ -158,7 +153,7 @@ module _ (w : (c j : ℕ) → ℕ) (size count at : ℕ) (before : List ℕ) whe
         ⊎-elim (λ (e : j < count). e)
         (λ (e : count ≤ j). let no : ⊥ = omega (arith, no-earlier size count j e) in absurd no) (lt-or-le j count) in
         rw (word-at i j h j<count) at
-        (all-at (λ x. x < 2 ^ 64) words (j * size + i) (room .small)
+        (all-at (λ x. x < 2 ^ 64) words (j * size + i) 0 (room .small)
         (omega (arith, words-length, digits-lt {q = j} {m = count} {r = i} {c = size} j<count h)))
 
   pub striped : Striped w size count at before before 0

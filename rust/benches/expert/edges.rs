@@ -4,7 +4,7 @@ use super::word::{add, both, copy, equal, less, move_if, open, set, RIGHT, TO};
 use super::{log_rows, log_vertices, start, CACHED_WORDS};
 use crate::reference::plan::{Public, FAR};
 
-pub fn run(public: &Public, cells: &mut [i64], log: &mut [u64]) -> u64 {
+pub fn run(public: &Public, cells: &mut [i64], log: &mut [u64]) {
     let (n, m) = (public.n as usize, public.m as usize);
     let plan = Plan::new(public);
     let mut lists = Lists::split(public, cells);
@@ -28,12 +28,6 @@ pub fn run(public: &Public, cells: &mut [i64], log: &mut [u64]) -> u64 {
     }
     end.copy_from_slice(&[open(plan.verdict), scratch.verdict as u64]);
     scratch.leave(lists.scratch);
-    rounds(public.n, public.m)
-}
-
-/// The rounds of every run of these sizes, by document 01.
-fn rounds(n: u64, m: u64) -> u64 {
-    3 * n + 3 + m * (23 * n * n + 6 * n - 1)
 }
 
 /// The numbers of vertices and edges, and the addresses: the first of each

@@ -4,7 +4,7 @@ use super::word::{add, both, copy, equal, less, move_if, open, set, LEFT, RIGHT,
 use super::{log_rows, log_vertices, start, CACHED_WORDS};
 use crate::reference::plan::{Public, FAR};
 
-pub fn run(public: &Public, cells: &mut [i64], log: &mut [u64]) -> u64 {
+pub fn run(public: &Public, cells: &mut [i64], log: &mut [u64]) {
     let (n, m) = (public.n as usize, public.m as usize);
     let plan = Plan::new(public);
     let mut lists = Lists::split(public, cells);
@@ -43,12 +43,6 @@ pub fn run(public: &Public, cells: &mut [i64], log: &mut [u64]) -> u64 {
     scratch.check(&lists);
     end.copy_from_slice(&[open(plan.verdict), scratch.verdict as u64]);
     scratch.leave(lists.scratch);
-    rounds(public.n, public.m)
-}
-
-/// The rounds of every run of these sizes, by the rules.
-fn rounds(n: u64, m: u64) -> u64 {
-    8 * n * n + 3 * n + 4 + m * (3 * n * n + 28 * n + 4)
 }
 
 /// The number of vertices, and the addresses: the first of each list and then

@@ -4,7 +4,7 @@ use super::word::{add, both, copy, equal, less, move_if, set, LEFT, RIGHT, TO};
 use super::{log_rows, log_vertices, start};
 use crate::reference::plan::{Public, FAR};
 
-pub fn run(public: &Public, cells: &mut [i64], log: &mut [u64]) -> u64 {
+pub fn run(public: &Public, cells: &mut [i64], log: &mut [u64]) {
     let n = public.n as usize;
     let plan = Plan::new(public);
     let mut lists = Lists::split(public, cells);
@@ -24,12 +24,6 @@ pub fn run(public: &Public, cells: &mut [i64], log: &mut [u64]) -> u64 {
         let left = [FAR, nearest, total, chosen, 0, i64::from(better)];
         lists.scratch.copy_from_slice(&left);
     }
-    rounds(public.n)
-}
-
-/// The rounds of every run of this size, by document 01.
-fn rounds(n: u64) -> u64 {
-    n * n * n + 24 * n * n + 5 * n + 2
 }
 
 /// The number of vertices, and the addresses: the first of each list but

@@ -39,6 +39,10 @@ impl Random {
         self.below(length as u64) as usize
     }
 
+    pub fn one_of(&mut self, numbers: &[u64]) -> u64 {
+        numbers[self.index(numbers.len())]
+    }
+
     pub fn words(&mut self, length: usize) -> Vec<u64> {
         (0..length).map(|_| self.word()).collect()
     }
@@ -272,19 +276,21 @@ fn faulty_word(random: &mut Random, public: &Public, floor: u64) -> u64 {
     faults::word(random, public, floor, &possible[chosen])
 }
 
-/// A foreign plan for that many cells; every word can be carried out.
-pub fn foreign_plan(random: &mut Random, cells: u64) -> Vec<u64> {
-    let length = random.index(40);
+/// A foreign plan of that many words, with these ops and cells alone; every word
+/// can be carried out where the cells are there.
+pub fn foreign_plan(random: &mut Random, length: usize, ops: &[u64], cells: &[u64]) -> Vec<u64> {
     let mut plan = random.words(length);
     for word in plan.iter_mut().skip(1) {
-        *word = operation(random, cells.max(1));
+        *word = operation(random, ops, cells);
     }
     plan
 }
 
-fn operation(random: &mut Random, cells: u64) -> u64 {
-    let [d, a, b] = [0; 3].map(|_: u64| random.below(cells));
-    match random.below(8) {
+fn operation(random: &mut Random, ops: &[u64], cells: &[u64]) -> u64 {
+    let [d, a, b] = [0; 3].map(|_: u64| random.one_of(cells));
+    match random.one_of(ops) {
+        // Fields that could be addresses, and are none.
+        0 if random.one_in(2) => pack(0, d, a, b),
         0 => pack(0, d, random.below(1 << 20), random.below(1 << 20)),
         1 => pack(1, d, a, 0),
         7 => pack(7, 0, a, 0),

@@ -1,5 +1,6 @@
 //! An implementation of the rules that shares nothing with the library.
 
+pub mod depth;
 pub mod graph;
 pub mod plan;
 
@@ -157,9 +158,11 @@ pub fn run(request: &[u64], lent: &mut Buffers) -> Outcome {
 }
 
 fn interpret(plan: &[u64], cells: &mut [i64], log: &mut [u64]) -> (u64, usize) {
-    let mut machine = Machine::new(plan[0], cells, log);
-    machine.interpret(&plan[1..]);
-    (machine.rounds, machine.logged)
+    let (header, words) = (plan[0], &plan[1..]);
+    let rounds = depth::rounds(words, cells.len());
+    let mut machine = Machine::new(header, cells, log);
+    machine.interpret(words);
+    (rounds, machine.logged)
 }
 
 fn copy_results(public: &Public, lent: &mut Buffers) {

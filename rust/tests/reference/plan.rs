@@ -4,7 +4,6 @@
 pub const FAR: i64 = 1 << 38;
 
 const FIELD: u64 = (1 << 20) - 1;
-const ROUNDS: [u64; 8] = [1, 0, 0, 6, 6, 1, 1, 1];
 
 /// The public part of a request.
 #[derive(Clone, Copy)]
@@ -355,7 +354,6 @@ pub struct Machine<'a> {
     cells: &'a mut [i64],
     log: &'a mut [u64],
     pub logged: usize,
-    pub rounds: u64,
 }
 
 impl<'a> Machine<'a> {
@@ -364,7 +362,6 @@ impl<'a> Machine<'a> {
             cells,
             log,
             logged: 0,
-            rounds: 0,
         };
         machine.note(header);
         machine
@@ -378,7 +375,6 @@ impl<'a> Machine<'a> {
 
     #[inline(always)]
     fn act(&mut self, op: u64, d: u64, a: u64, b: u64) {
-        self.rounds += ROUNDS[op as usize];
         let (to, left, right) = (d as usize, a as usize, b as usize);
         let cells = &mut *self.cells;
         match op {

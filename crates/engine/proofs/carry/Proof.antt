@@ -1,7 +1,6 @@
 -- `engine::carry` meets its contract. Rests on Carries.
 use borrow.Author.Needs.{needs}
-use native.Mathlib.Omega.{arith}
-use Rattle.engine.proofs.Carries.{plan-room, inside, words-long, words-admitted, rounds-fit, verdict-there, publish-room, ended}
+use Rattle.engine.proofs.Carries.{plan-room, inside, words-long, words-admitted, verdict-there, publish-room, ended}
 use Rattle.engine.proofs.carry.Statement.{statement}
 use Rattle.engine.proofs.carry.Tie as tie
 
@@ -49,10 +48,7 @@ publish-requires c κs =
 
 rounds-of-requires : tie.Need-rounds-of-requires
 unfolding begun filled carried
-rounds-of-requires c κs =
-    let w = carried (c .before .before) in
-    let f = filled w in
-    rounds-fit (begun f .pre .1) (f .fill .ensures) (w .carry-words .ensures) (omega arith)
+rounds-of-requires c κs = begun (filled (carried (c .before .before))) .pre .1 .allowed
 
 returns : tie.Need-returns
 unfolding begun filled carried

@@ -3,15 +3,15 @@ use mathlib.Core.Path.{refl, _∙_}
 use Prim.Native.Nat.{_-_}
 use native.Mathlib.Omega.{arith}
 use lib.ListN.{length, length-set}
-use Rattle.runner.proofs.Turn.{Turn, has-header, start, room, can, known, fits, again, done, no-words}
+use Rattle.runner.proofs.Turn.{Turn, has-header, start, can, fits, again, done, no-words}
 use Rattle.runner.proofs.carry_plan.Statement.{statement}
 use Rattle.runner.proofs.carry_plan.Tie as tie
 
 abbrev Inv-loop : tie.InvT-loop
-Inv-loop plan cells₀ log₀ tallies₀ at₀ k₀ cells log tallies at k = Turn plan cells₀ log₀ cells log at tallies k
+Inv-loop plan cells₀ log₀ at₀ k₀ cells log at k = Turn plan cells₀ log₀ cells log at k
 
 abbrev μ-loop : tie.MeasureT-loop
-μ-loop plan cells₀ log₀ tallies₀ at₀ k₀ cells log tallies at k = length plan - k
+μ-loop plan cells₀ log₀ at₀ k₀ cells log at k = length plan - k
 
 slice-write-log : tie.Need-slice-write-log Inv-loop μ-loop
 slice-write-log c =
@@ -33,18 +33,12 @@ step-requires c κs =
     let t = c .before .before .before .before .before .before .before in
     can (t .before .loop .inv .carrying) (t .loop-test .taken) _ refl
 
-tally-requires : tie.Need-tally-requires Inv-loop μ-loop
-tally-requires c κs =
-    let t = c .before .before .before .before .before .before .before .before .before .before in
-    let i = t .before .loop .inv .carrying in
-    (omega (arith, known i (t .loop-test .taken) _ refl), room i (omega arith) _)
-
 loop-again : tie.Need-loop-again Inv-loop μ-loop
 loop-again c =
-    let s = c .before .before .before in
+    let s = c .before in
     let a = s .before .before .before .before in
     let t = a .before .before .before .before in
-    again (t .before .loop .inv) (t .loop-test .taken) _ refl _ _ _ _ (s .step .ensures) (a .append .ensures) (c .tally .ensures)
+    again (t .before .loop .inv) (t .loop-test .taken) _ refl _ _ _ (s .step .ensures) (a .append .ensures)
 
 same-length-2 : tie.Need-same-length-2 Inv-loop μ-loop
 same-length-2 c = c .before .loop .inv .long ∙ simp length-set
@@ -63,7 +57,6 @@ carry-plan-spec =
     (λ c. omega arith)
     append-requires
     step-requires
-    tally-requires
     (λ c. omega arith)
     (λ c. omega arith)
     loop-again

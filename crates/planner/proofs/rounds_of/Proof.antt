@@ -1,0 +1,17 @@
+-- `planner::rounds_of` meets its contract: a method's own. Rests on Figured.
+use borrow.Author.Needs.{needs}
+use native.Mathlib.Omega.{arith}
+use Rattle.planner.proofs.Figured.{method-three}
+use Rattle.planner.proofs.rounds_of.Statement.{statement}
+use Rattle.planner.proofs.rounds_of.Tie as tie
+
+pub rounds-of-spec : {M : Type 1} → statement M
+rounds-of-spec =
+    tie.close
+    (tie.spec
+    (λ c κs. search needs)
+    (λ c κs. search needs)
+    (λ c κs. search (needs, method-three, arith))
+    (λ c. search needs)
+    (λ c. search needs)
+    (λ c. search needs))
