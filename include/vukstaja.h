@@ -10,7 +10,7 @@
 #include <stddef.h>
 #include <stdint.h>
 
-/* The places of an answer's seven numbers. */
+/* The places of an answer's eight numbers. */
 enum {
     VUKSTAJA_NUMBER = 0,      /* 0: done; 12: a loss circle, after a run; else the refusal's number */
     VUKSTAJA_HAS_PLACE = 1,   /* 1 where there is a place (refusals 9, 10, 11, 13, 14 and 15), else 0 */
@@ -22,21 +22,24 @@ enum {
     VUKSTAJA_CELLS = 3,       /* of the sizes: cells */
     VUKSTAJA_LOG = 4,         /* words of the log, which are enough for the plan too */
     VUKSTAJA_DISTANCES = 5,   /* places of distances */
-    VUKSTAJA_PARENTS = 6      /* places of parents */
+    VUKSTAJA_PARENTS = 6,     /* places of parents */
+    VUKSTAJA_ROUTE = 7        /* places of the route, 0 in every method but 5 */
 };
 
-typedef uint64_t vukstaja_answer[7];
+typedef uint64_t vukstaja_answer[8];
 
 #ifdef __cplusplus
 extern "C" {
 #endif
 
-/* Runs a request. With 0 cells, log, distances and parents are the run's; with 12 only cells and log; else nothing is changed. */
+/* Runs a request. With 0 cells, log, distances and parents are the run's; with 12 only cells and log; else nothing is changed.
+ * The route is looked at in method 5 only, and is the run's with 0: the edges' numbers, the last edge first, then -1. */
 void vukstaja_run(const uint64_t *request, size_t request_length,
                   int64_t *cells, size_t cells_length,
                   uint64_t *log, size_t log_length,
                   int64_t *distances, size_t distances_length,
                   int64_t *parents, size_t parents_length,
+                  int64_t *route, size_t route_length,
                   vukstaja_answer *answer);
 
 /* Runs a plan that somebody else wrote, on the lent cells. With 0 cells and log are the run's; else nothing is changed. */

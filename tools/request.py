@@ -20,17 +20,20 @@ byte first, on standard output."""
 TEXT_FORMAT = """\
 The text, line by line; what follows a # and blank lines are passed over:
 
-  method 1          1 (Bellman-Ford over lanes), 2 (Dijkstra over a table) or
-                    3 (Bellman-Ford over lanes sorted by to-yard)
+  method 1          1 (Bellman-Ford over lanes), 2 (Dijkstra over a table),
+                    3 (Bellman-Ford over lanes sorted by to-yard) or
+                    5 (as 1, with the lanes of the route to one yard)
   yards 2           how many yards there are, 1 to 32; they are numbered from 0
   source 0          the yard from which routes start
-  lane 0 1 -5       methods 1 and 3: from-yard, to-yard and price, at most 128
-                    lanes; the first one is lane 0, the next lane 1, and so on;
-                    in method 3 no to-yard is below that of the lane before it
+  destination 1     method 5: the yard whose route is shown
+  lane 0 1 -5       methods 1, 3 and 5: from-yard, to-yard and price, at most
+                    128 lanes; the first one is lane 0, the next lane 1, and so
+                    on; in method 3 no to-yard is below that of the lane before
+                    it
   row 0 7           method 2: the prices from one yard to each yard, a row for
   row - 0           each yard, yard 0 first; - (or -1) where there is no lane
 
-Prices go from -1000000 to 1000000 in methods 1 and 3, from 0 to 1000000 in
+Prices go from -1000000 to 1000000 in methods 1, 3 and 5, from 0 to 1000000 in
 method 2. Every number is whole, in decimal digits, with - before them if it is
 negative.
 
@@ -41,8 +44,9 @@ too many prices in a row while the number of yards is not known. Nothing is
 written, and the exit status is 1, as it is when a file cannot be used.
 
 With --unchecked a number only has to fit its bit field (method 4 bits, yards,
-lanes and source 20, a lane's yards 8, a price 32 in two's complement), and
-`lane` and `row` lines go out as they stand, in any method, number and order;
+lanes and source 20, a lane's yards 8, a price 32 in two's complement, the
+destination 64), and `lane` and `row` lines go out as they stand, in any method,
+number and order, and then the `destination` lines, in any method and number;
 the header counts the `lane` lines. So requests can be made that are refused."""
 
 
@@ -69,6 +73,20 @@ class Complaint(NamedTuple):
         return f"line {self.number}: {self.wrong}, expected {self.expected}"
 
 
+class Choice(NamedTuple):
+    """Some numbers, one by one."""
+
+    numbers: tuple
+
+    def __str__(self):
+        *others, last = map(str, self.numbers)
+        return f"{', '.join(others)} or {last}"
+
+    def takes(self, value):
+        """Whether this text writes one of the numbers."""
+        return is_short_number(value) and int(value) in self.numbers
+
+
 class Range(NamedTuple):
     """The numbers from `low` to `high`, and a remark for the reader of a message."""
 
@@ -81,17 +99,17 @@ class Range(NamedTuple):
 
     def takes(self, value):
         """Whether this text writes a number of the range."""
-        # No field takes 20 digits, and Python reads no more than some thousands.
-        return is_number(value) and len(value) <= 20 and self.low <= int(value) <= self.high
+        return is_short_number(value) and self.low <= int(value) <= self.high
 
 
 class Limits(NamedTuple):
     """Which numbers the text may give."""
 
-    method: Range
+    method: Range | Choice
     vertices: Range
     edges: Range
     source: Range
+    destination: Range
     vertex: Range
     weight: Range
     entry: Range
@@ -117,6 +135,7 @@ FORMS = {
     "method": "method NUMBER",
     "yards": "yards NUMBER",
     "source": "source YARD",
+    "destination": "destination YARD",
     "lane": "lane FROM-YARD TO-YARD PRICE",
     "row": "row PRICE PRICE ..",
 }
@@ -141,6 +160,7 @@ BIT_FIELDS = Limits(
     vertices=unsigned(20),
     edges=unsigned(20),
     source=unsigned(20),
+    destination=unsigned(64),
     vertex=unsigned(8),
     weight=signed(32),
     entry=signed(32),
@@ -148,10 +168,11 @@ BIT_FIELDS = Limits(
 
 # Document 01's own limits, for as long as the number of vertices is not known.
 RULES = Limits(
-    method=Range(1, 3),
+    method=Choice((1, 2, 3, 5)),
     vertices=Range(1, 32),
     edges=Range(0, 128),
     source=Range(0, 31),
+    destination=Range(0, 31),
     vertex=Range(0, 31),
     weight=Range(-1_000_000, 1_000_000),
     entry=Range(NO_EDGE, 1_000_000, " (-1 or - for no lane)"),
@@ -165,12 +186,18 @@ def limits_for(vertices, unchecked):
     if vertices is None:
         return RULES
     below = Range(0, vertices - 1)
-    return RULES._replace(source=below, vertex=below)
+    return RULES._replace(source=below, destination=below, vertex=below)
 
 
 def is_number(value):
     """Whether this text writes a whole number."""
     return re.fullmatch("-?[0-9]+", value) is not None
+
+
+def is_short_number(value):
+    """Whether this text writes a whole number that a field could take."""
+    # No field takes over 20 digits, and Python reads no more than some thousands.
+    return is_number(value) and len(value) <= 20
 
 
 def lines_of(text):
@@ -205,9 +232,14 @@ def form_complaints(lines):
             yield Complaint(number, f"wrong number of values after `{keyword}` ({len(values)})", f"`{form}`")
 
 
-def repeat_complaints(lines):
-    """Complains of a keyword of the header that was given before."""
-    for keyword in HEADER:
+def given_once(method):
+    """The keywords that a text of this method gives once, or one whose method is not known."""
+    return (*HEADER, "destination") if method == 5 else HEADER
+
+
+def repeat_complaints(lines, method):
+    """Complains of a keyword that should be given once and was given before."""
+    for keyword in given_once(method):
         given = having(lines, keyword)
         for line in given[1:]:
             yield Complaint(line.number, f"`{keyword}` was given on line {given[0].number}", "it once")
@@ -224,6 +256,9 @@ def method_complaints(lines, method):
     own, other = ("row", "lane") if method == 2 else ("lane", "row")
     for line in having(lines, other):
         yield Complaint(line.number, f"`{other}` in method {method}", f"`{FORMS[own]}`")
+    if method != 5:
+        for line in having(lines, "destination"):
+            yield Complaint(line.number, f"`destination` in method {method}", "it in method 5 alone")
 
 
 def known_head(line, allowed):
@@ -262,6 +297,7 @@ def fields_of(line, limits):
         "method": [("method", limits.method)],
         "yards": [("yards", limits.vertices)],
         "source": [("source", limits.source)],
+        "destination": [("destination", limits.destination)],
         "lane": [("from-yard", limits.vertex), ("to-yard", limits.vertex), ("price", limits.weight)],
     }
     return fields.get(line.keyword, [])
@@ -281,7 +317,7 @@ def missing(lines, method, vertices):
     """Complains, at the last line, of what the text lacks, unless a bad line looks like an attempt at it."""
     last = lines[-1].number if lines else 0
     meant = [line.meant for line in lines]
-    for keyword in HEADER:
+    for keyword in given_once(method):
         if keyword not in meant:
             yield Complaint(last, f"the text has no `{keyword}`", f"a line `{FORMS[keyword]}`")
     rows = meant.count("row")
@@ -299,7 +335,7 @@ def messages_for(lines, unchecked):
     method = None if unchecked else known_number(lines, "method", limits.method)
     found = chain(
         form_complaints(lines),
-        repeat_complaints(lines),
+        repeat_complaints(lines, method),
         [] if method is None else method_complaints(lines, method),
         edge_complaints(lines, limits.edges),
         [] if unchecked or vertices is None else table_complaints(lines, vertices),
@@ -340,14 +376,14 @@ def row_words(line):
 
 
 def body_words(lines):
-    """The words after the header, in the order of the text."""
+    """The words after the header, in the order of the text, but destinations last."""
     words = []
     for line in lines:
         if line.keyword == "lane":
             words.append(edge_word(line))
         elif line.keyword == "row":
             words.extend(row_words(line))
-    return words
+    return words + [int(line.values[0]) for line in having(lines, "destination")]
 
 
 def request_words(text, unchecked=False):

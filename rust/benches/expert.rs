@@ -7,6 +7,7 @@
 //! log is short, and make them anew when it is long: whichever is faster.
 
 mod edges;
+mod route;
 mod sorted;
 mod table;
 
@@ -24,6 +25,7 @@ pub fn run(request: &[u64], cells: &mut [i64], log: &mut [u64]) -> u64 {
     match public.method {
         1 => edges::run(&public, cells, &mut log[1..]),
         3 => sorted::run(&public, cells, &mut log[1..]),
+        5 => route::run(&public, cells, &mut log[1..]),
         _ => table::run(&public, cells, &mut log[1..]),
     }
     rounds(&public)
@@ -37,6 +39,8 @@ pub fn rounds(public: &Public) -> u64 {
         (1, _) => m * (n * n + 9 * n - 9) + n + 16,
         (3, 0) => 8 * n + 1,
         (3, _) => 9 * n * m + n * n + 8 * n + 7,
+        (5, 0) => (n * n + 5 * n - 5).max(2),
+        (5, _) => m * (n - 1) * (n + 9) + (m * n + n + 16).max(m + n * n + 5 * n + 1),
         _ => 9 * n * n + 13 * n + 1,
     }
 }

@@ -18,7 +18,7 @@ use vukstaja::Answer;
 const WORDS: usize = 40_000_000;
 /// and at least so many in a turn, so that reading the clock costs next to nothing.
 const WORDS_PER_TURN: usize = 50_000;
-const SIZES: [(u64, u64, u64); 12] = [
+const SIZES: [(u64, u64, u64); 16] = [
     (1, 4, 16),
     (1, 8, 32),
     (1, 16, 64),
@@ -31,6 +31,10 @@ const SIZES: [(u64, u64, u64); 12] = [
     (3, 8, 32),
     (3, 16, 64),
     (3, 32, 128),
+    (5, 4, 16),
+    (5, 8, 32),
+    (5, 16, 64),
+    (5, 32, 128),
 ];
 
 /// The baselines of a run test nothing of the request, and copy no results. The
@@ -134,7 +138,8 @@ struct Task {
 }
 
 impl Task {
-    /// A ring with shortcuts, so that distances move in many passes.
+    /// A ring with shortcuts, so that distances move in many passes; method 5's
+    /// destination is the last vertex.
     fn new(method: u64, n: u64, m: u64) -> Task {
         let header = pack(method, n, m, 0);
         let mut request = vec![header];
@@ -147,8 +152,10 @@ impl Task {
                 tail << 56 | head << 48 | (1 + i * 37 % 100)
             }));
         }
-        if method == 3 {
-            request[1..].sort_by_key(|&edge| head(edge));
+        match method {
+            3 => request[1..].sort_by_key(|&edge| head(edge)),
+            5 => request.push(n - 1),
+            _ => (),
         }
         let plan = reference::plan_words(header);
         Task { request, plan }
@@ -172,6 +179,7 @@ struct Bank {
     plan: Vec<u64>,
     distances: Vec<i64>,
     parents: Vec<i64>,
+    route: Vec<i64>,
 }
 
 /// A contender and how it did so far.
@@ -194,6 +202,7 @@ impl Racer {
             plan: Vec::with_capacity(task.plan.len()),
             distances: vec![0; public.n as usize],
             parents: vec![0; public.n as usize],
+            route: vec![0; public.route_length()],
         };
         Racer {
             work,
@@ -225,6 +234,7 @@ fn library_run(task: &Task, bank: &mut Bank) -> u64 {
         &mut bank.words,
         &mut bank.distances,
         &mut bank.parents,
+        &mut bank.route,
     );
     match answer {
         Answer::Ran(report) => report.rounds,
@@ -238,8 +248,7 @@ fn plan_then_interpret(task: &Task, bank: &mut Bank) -> u64 {
     lay(&public, &task.request[1..], &mut bank.cells);
     bank.plan.clear();
     emit(&public, &mut bank.plan);
-    let mut machine = Machine::new(header, &mut bank.cells, &mut bank.words);
-    machine.interpret(&bank.plan);
+    Machine::new(header, &mut bank.cells, &mut bank.words).interpret(&bank.plan);
     expert::rounds(&public)
 }
 

@@ -6,7 +6,7 @@
 use std::fmt::Display;
 use std::num::ParseIntError;
 
-use vukstaja::{solve, Refusal, Routes};
+use vukstaja::{solve, Method, Refusal, Routes};
 
 const PRINTED: [u64; 2] = [0x1000_0200_0010_0000, 0x0001_0000_FFFF_FFFB];
 
@@ -44,6 +44,10 @@ fn print_routes(routes: &Routes) {
     let lines = routes.distances.iter().zip(&routes.parents);
     for (vertex, (distance, parent)) in lines.enumerate() {
         println!("{vertex} {} {}", or_dash(distance), or_dash(parent));
+    }
+    if header.method == Method::BellmanFordRoute {
+        let edges = routes.route.iter().map(|edge| format!(" {edge}"));
+        println!("route{}", edges.collect::<String>());
     }
 }
 

@@ -1,15 +1,28 @@
 //! Private routing: safe calls to the proved static library.
 //!
 //! A graph has vertices and directed edges with weights; an edge of negative
-//! weight is allowed in methods 1 and 3. A run answers the distance of each
-//! vertex from the source and its parent on a shortest walk, and writes a log
-//! that follows from the public header and the verdict alone.
+//! weight is allowed in methods 1, 3 and 5. A run answers the distance of each
+//! vertex from the source and its parent on a shortest walk, in method 5 also
+//! the edges of such a walk to a destination, and writes a log that follows from
+//! the public header and the verdict alone.
 //!
 //! ```
 //! // Two vertices, and one edge from 0 to 1 of weight -5.
 //! let routes = vukstaja::solve(&[0x1000_0200_0010_0000, 0x0001_0000_FFFF_FFFB])?;
 //! assert_eq!(routes.distances, [Some(0), Some(-5)]);
 //! assert_eq!(routes.parents, [None, Some(0)]);
+//!
+//! // Edges from 1 to 2 and from 0 to 1, and 2 as the destination.
+//! let header = vukstaja::Header {
+//!     method: vukstaja::Method::BellmanFordRoute,
+//!     vertices: 3,
+//!     edges: 2,
+//!     source: 0,
+//! };
+//! let edges = [0x0102_0000_0000_0004, 0x0001_0000_0000_0003];
+//! let routes = vukstaja::solve(&[header.word(), edges[0], edges[1], 2])?;
+//! assert_eq!(routes.distances, [Some(0), Some(3), Some(7)]);
+//! assert_eq!(routes.route, [0, 1]);
 //! # Ok::<(), vukstaja::Refusal>(())
 //! ```
 
@@ -19,15 +32,15 @@ use std::fmt;
 /// The distance cell of a vertex that no walk from the source reaches.
 pub const UNREACHED: i64 = 1 << 38;
 
-/// The parent of the source and of unreached vertices.
+/// The parent of the source and of unreached vertices, which fills a route up, too.
 pub const NO_PARENT: i64 = -1;
 
 const FIELD_BITS: u32 = 20;
 const FIELD_MAX: u32 = (1 << FIELD_BITS) - 1;
 const NEGATIVE_CYCLE: u64 = 12;
 
-/// What a call answers: number, whether there is a place, place, and up to four values.
-type Numbers = [u64; 7];
+/// What a call answers: number, whether there is a place, place, and up to five values.
+type Numbers = [u64; 8];
 
 extern "C" {
     fn vukstaja_run(
@@ -41,6 +54,8 @@ extern "C" {
         distances_len: usize,
         parents: *mut i64,
         parents_len: usize,
+        route: *mut i64,
+        route_len: usize,
         answer: *mut Numbers,
     );
     fn vukstaja_run_plan(
@@ -73,6 +88,9 @@ pub enum Method {
     /// from the distances of the pass before. Of edges that offer a vertex the
     /// same the lowest becomes its parent.
     SortedBellmanFord = 3,
+    /// Method 5: Bellman-Ford over a list of edges, and the route to a
+    /// destination, which is a word after the edges.
+    BellmanFordRoute = 5,
 }
 
 /// The public part of a request.
@@ -85,13 +103,14 @@ pub struct Header {
 }
 
 impl Header {
-    /// Reads a header word; `None` if its method is not 1, 2 or 3. Whether the
-    /// library accepts the rest, [`sizes`] tells.
+    /// Reads a header word; `None` if its method is not 1, 2, 3 or 5. Whether
+    /// the library accepts the rest, [`sizes`] tells.
     pub fn from_word(word: u64) -> Option<Header> {
         let method = match word >> (3 * FIELD_BITS) {
             1 => Method::BellmanFord,
             2 => Method::Dijkstra,
             3 => Method::SortedBellmanFord,
+            5 => Method::BellmanFordRoute,
             _ => return None,
         };
         Some(Header {
@@ -124,6 +143,8 @@ pub struct Sizes {
     pub log: usize,
     pub distances: usize,
     pub parents: usize,
+    /// 0 in every method but 5.
+    pub route: usize,
 }
 
 /// What a request's run tells beside its buffers.
@@ -153,14 +174,14 @@ pub struct Refusal {
 impl Refusal {
     fn sentence(&self) -> &'static str {
         match self.number {
-            1 => "the header is missing, or its method is not 1, 2 or 3",
+            1 => "the header is missing, or its method is not 1, 2, 3 or 5",
             2 => "the number of vertices is 0 or over 32",
             3 => "the number of edges is over 128, or not 0 in method 2",
             4 => "the source is not one of the vertices",
             5 => "the number of words after the header is not the header's",
             6 => "there are too few cells",
             7 => "the log or plan buffer is too short",
-            8 => "the distances or parents buffer is shorter than the number of vertices",
+            8 => "the distances, parents or route buffer is too short",
             9 => "the plan has a word that cannot be carried out",
             10 => "the spare bits of a word are not zero",
             11 => "a weight is outside its range",
@@ -168,6 +189,7 @@ impl Refusal {
             13 => "an edge leads from a vertex that is not there",
             14 => "an edge leads to a vertex that is not there",
             15 => "an edge leads to a lower vertex than the edge before it",
+            16 => "the destination is not one of the vertices",
             _ => "the refusal has no known number",
         }
     }
@@ -188,9 +210,9 @@ impl Error for Refusal {}
 /// The answer to a request.
 #[derive(Clone, Copy, Debug, PartialEq, Eq)]
 pub enum Answer {
-    /// Cells, log, distances and parents are written.
+    /// Cells, log, distances and parents are written, in method 5 the route too.
     Ran(Report),
-    /// Refusal 12: cells and log are written, distances and parents are not.
+    /// Refusal 12: cells and log are written, distances, parents and route are not.
     NegativeCycle(Report),
     /// No buffer has changed.
     Refused(Refusal),
@@ -203,18 +225,23 @@ pub struct Routes {
     pub report: Report,
     /// `None` where no walk from the source leads.
     pub distances: Vec<Option<i64>>,
-    /// The last edge's number in methods 1 and 3, the last vertex but one in method 2.
+    /// The last edge's number in methods 1, 3 and 5, the last vertex but one in method 2.
     pub parents: Vec<Option<usize>>,
+    /// In method 5 the numbers of the edges of a shortest walk to the destination,
+    /// the last edge first: none where that is the source or unreached. Empty in
+    /// other methods.
+    pub route: Vec<usize>,
     pub log: Vec<u64>,
 }
 
-/// Runs a request in the buffers lent.
+/// Runs a request in the buffers lent. The route's is looked at in method 5 alone.
 pub fn run(
     request: &[u64],
     cells: &mut [i64],
     log: &mut [u64],
     distances: &mut [i64],
     parents: &mut [i64],
+    route: &mut [i64],
 ) -> Answer {
     let mut answer = Numbers::default();
     // SAFETY: each pointer and length come from one live slice, never null;
@@ -231,10 +258,12 @@ pub fn run(
             distances.len(),
             parents.as_mut_ptr(),
             parents.len(),
+            route.as_mut_ptr(),
+            route.len(),
             &mut answer,
         );
     }
-    let [number, _, _, rounds, log_length, verdict, _] = answer;
+    let [number, _, _, rounds, log_length, verdict, ..] = answer;
     let report = Report {
         rounds,
         log_length,
@@ -298,13 +327,14 @@ pub fn sizes(header: &[u64]) -> Result<Sizes, Refusal> {
     unsafe {
         vukstaja_sizes(header.as_ptr(), header.len(), &mut answer);
     }
-    let [number, _, _, cells, log, distances, parents] = answer;
+    let [number, _, _, cells, log, distances, parents, route] = answer;
     match number {
         0 => Ok(Sizes {
             cells: cells as usize,
             log: log as usize,
             distances: distances as usize,
             parents: parents as usize,
+            route: route as usize,
         }),
         _ => Err(refusal(&answer)),
     }
@@ -318,12 +348,22 @@ pub fn solve(request: &[u64]) -> Result<Routes, Refusal> {
     let mut log = vec![0; sizes.log];
     let mut distances = vec![0; sizes.distances];
     let mut parents = vec![0; sizes.parents];
-    match run(request, &mut cells, &mut log, &mut distances, &mut parents) {
+    let mut route = vec![0; sizes.route];
+    let answer = run(
+        request,
+        &mut cells,
+        &mut log,
+        &mut distances,
+        &mut parents,
+        &mut route,
+    );
+    match answer {
         Answer::Ran(report) => Ok(Routes {
             header,
             report,
             distances: distances.into_iter().map(reached).collect(),
             parents: parents.into_iter().map(known).collect(),
+            route: route.into_iter().map_while(known).collect(),
             log,
         }),
         Answer::NegativeCycle(_) => Err(Refusal {

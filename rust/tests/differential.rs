@@ -3,11 +3,14 @@
 mod chains;
 mod generator;
 mod reference;
+mod shapes;
 
-use std::collections::HashSet;
+use std::collections::{BTreeMap, HashSet};
 use std::thread;
 
-use generator::{buffers, damage, edge_word, faults, foreign_plan, request, small_request, Random};
+use generator::{
+    buffers, damage, edge_word, faults, foreign_plan, request, small_request, Random, METHODS,
+};
 use reference::graph::Graph;
 use reference::plan::{head, pack, Public, FAR};
 use reference::{Buffers, Outcome};
@@ -22,11 +25,11 @@ fn refused(refusal: Refusal) -> Outcome {
     Outcome {
         number: refusal.number,
         place: refusal.place,
-        values: [0; 4],
+        values: [0; 5],
     }
 }
 
-fn ran(number: u64, values: [u64; 4]) -> Outcome {
+fn ran(number: u64, values: [u64; 5]) -> Outcome {
     Outcome {
         number,
         place: None,
@@ -41,10 +44,11 @@ fn library_run(request: &[u64], lent: &mut Buffers) -> Outcome {
         &mut lent.log,
         &mut lent.distances,
         &mut lent.parents,
+        &mut lent.route,
     );
     match answer {
-        Answer::Ran(r) => ran(0, [r.rounds, r.log_length, r.verdict, 0]),
-        Answer::NegativeCycle(r) => ran(12, [r.rounds, r.log_length, r.verdict, 0]),
+        Answer::Ran(r) => ran(0, [r.rounds, r.log_length, r.verdict, 0, 0]),
+        Answer::NegativeCycle(r) => ran(12, [r.rounds, r.log_length, r.verdict, 0, 0]),
         Answer::Refused(refusal) => refused(refusal),
     }
 }
@@ -73,7 +77,7 @@ fn judge_rounds(outcome: &Outcome, log: &[u64], cells: usize) {
     assert_eq!(rounds, chains::heaviest(&log[..length as usize], cells));
 }
 
-/// Judges verdict, distances and parents by the graph alone.
+/// Judges verdict, distances, parents and route by the graph alone.
 fn judge(request: &[u64], outcome: &Outcome, left: &Buffers) {
     let graph = Graph::read(request);
     let distances = graph.bellman_ford();
@@ -81,6 +85,9 @@ fn judge(request: &[u64], outcome: &Outcome, left: &Buffers) {
     assert_eq!(outcome.values[2], u64::from(distances.is_none()));
     if request[0] >> 60 == 3 {
         judge_passes(request, &graph, outcome, left);
+    }
+    if let Some(destination) = graph.destination {
+        judge_route(request, &graph, destination, outcome, left);
     }
     let Some(distances) = distances else {
         return;
@@ -116,6 +123,39 @@ fn judge_passes(request: &[u64], graph: &Graph, outcome: &Outcome, left: &Buffer
     assert_eq!(outcome.number == 12, passes.gains, "{request:x?}");
 }
 
+/// Judges method 5's route: the parents followed from the destination, and a
+/// walk whose total is the distance. A negative cycle leaves no results, but
+/// cells in which the parents are followed all the same.
+fn judge_route(
+    request: &[u64],
+    graph: &Graph,
+    destination: usize,
+    outcome: &Outcome,
+    left: &Buffers,
+) {
+    let (n, steps) = (graph.vertices, graph.vertices - 1);
+    if outcome.number == 12 {
+        let public = Public::read(request[0]);
+        let parents = &left.cells[public.distances() as usize + n..][..n];
+        let route = &left.cells[public.route() as usize..][..steps];
+        assert_eq!(route, graph.followed(parents, destination), "{request:x?}");
+        return;
+    }
+    let route = &left.route[..steps];
+    let followed = graph.followed(&left.parents, destination);
+    assert_eq!(route, followed, "{request:x?}");
+    let end = route.iter().position(|&edge| edge == -1);
+    let (shown, padding) = route.split_at(end.unwrap_or(steps));
+    assert!(padding.iter().all(|&edge| edge == -1), "{request:x?}");
+    match left.distances[destination] {
+        FAR => assert!(shown.is_empty(), "{request:x?}"),
+        total => {
+            let walk = graph.walk(shown, destination);
+            assert_eq!(walk, Some((graph.source, total)), "{request:x?}");
+        }
+    }
+}
+
 /// Follows the parents along tight edges to the source and counts the steps;
 /// `None` for a vertex without parent that is not the source.
 fn walk_back(graph: &Graph, left: &Buffers, vertex: usize, dense: bool) -> Option<usize> {
@@ -141,7 +181,7 @@ fn walk_back(graph: &Graph, left: &Buffers, vertex: usize, dense: bool) -> Optio
 #[test]
 fn small_requests() {
     let mut random = Random::new(SEED);
-    let mut seen = [0; 16];
+    let mut seen = [0; 17];
     for _ in 0..100_000 {
         let mut request = small_request(&mut random);
         let mut lent = buffers(&mut random, request[0]);
@@ -152,27 +192,35 @@ fn small_requests() {
         seen[outcome.number as usize] += 1;
     }
     println!("100000 requests, by number: {seen:?}");
-    for number in (0..16).filter(|&number| number != 9) {
+    for number in (0..17).filter(|&number| number != 9) {
         assert!(seen[number] > 100, "number {number} is rare: {seen:?}");
     }
 }
 
-/// Of the first word that has faults the first one is told, whatever the word after it is.
+/// Of the first word that has faults the first one is told, whatever the word
+/// after it and the destination are.
 #[test]
 fn words_with_every_combination_of_faults() {
     let mut random = Random::new(SEED + 9);
     let mut compared = 0;
     let mut seen = HashSet::new();
-    let edges = [1, 3].map(|method| [1, 2, 31, 32].map(|n| (method, n)));
+    let edges = [1, 3, 5].map(|method| [1, 2, 31, 32].map(|n| (method, n)));
     let tables = [(2, 1), (2, 2), (2, 3)];
     for (method, n) in edges.concat().into_iter().chain(tables) {
-        let valid = request(&mut random, method, n, 3);
+        let mut valid = request(&mut random, method, n, 3);
+        if method == 5 {
+            valid.pop();
+        }
         let combinations = faults::combinations(method);
         for at in 1..valid.len() {
             for chosen in &combinations {
                 for later in &combinations {
                     let faulty = with_faults(&mut random, &valid, at, [chosen, later]);
-                    if let Some(request) = faulty {
+                    if let Some(mut request) = faulty {
+                        if method == 5 {
+                            let bad = random.one_in(2);
+                            request.push(faults::destination(&mut random, n, bad));
+                        }
                         compare_faults(&mut random, &request, at, chosen);
                         compared += 1;
                         seen.insert((method, chosen.clone()));
@@ -183,7 +231,7 @@ fn words_with_every_combination_of_faults() {
     }
     println!("{compared} requests with chosen faults");
     // In method 3 a head that is not there is not below another: 8 of 32 cannot be.
-    assert_eq!(seen.len(), 16 + 4 + 24);
+    assert_eq!(seen.len(), 16 + 4 + 24 + 16);
 }
 
 /// A request with these faults in the word at a place and in the next one,
@@ -216,11 +264,114 @@ fn compare_faults(random: &mut Random, request: &[u64], at: usize, chosen: &[u64
 }
 
 #[test]
+fn routes_of_every_shape() {
+    let mut random = Random::new(SEED + 13);
+    let mut seen = BTreeMap::from(shapes::ALL.map(|shape| (shape, 0)));
+    for _ in 0..20_000 {
+        let (n, m) = (1 + random.below(8), random.below(16));
+        let request = request(&mut random, 5, n, m);
+        let lent = buffers(&mut random, request[0]);
+        let (outcome, left) = compare(&request, lent);
+        for shape in shapes::of(&request, &outcome, &left) {
+            *seen.get_mut(shape).expect("a known shape") += 1;
+        }
+    }
+    println!("20000 routes, by shape: {seen:?}");
+    assert!(seen.values().all(|&count| count > 1000), "{seen:?}");
+}
+
+/// Method 5 is method 1 with a route: the destination moves nothing else, and
+/// the log does not tell it.
+#[test]
+fn routes_to_every_vertex() {
+    let mut random = Random::new(SEED + 14);
+    let mut compared = 0;
+    for _ in 0..1000 {
+        let (n, m) = (1 + random.below(6), random.below(13));
+        let mut routed = request(&mut random, 5, n, m);
+        let mut plain = routed.clone();
+        plain.pop();
+        plain[0] = pack(1, n, m, Public::read(routed[0]).source);
+        let lent = buffers(&mut random, plain[0]);
+        let (outcome, left) = compare(&plain, lent);
+        let mut logs = HashSet::new();
+        for destination in 0..n {
+            routed[1 + m as usize] = destination;
+            let mut lent = buffers(&mut random, routed[0]);
+            lent.distances = left.distances.clone();
+            lent.parents = left.parents.clone();
+            let (with_route, routed_left) = compare(&routed, lent);
+            assert_eq!(with_route.number, outcome.number);
+            assert_eq!(routed_left.distances, left.distances);
+            assert_eq!(routed_left.parents, left.parents);
+            let length = with_route.values[1] as usize;
+            logs.insert(routed_left.log[..length].to_vec());
+            compared += 1;
+        }
+        assert_eq!(logs.len(), 1);
+    }
+    println!("{compared} routes beside method 1");
+}
+
+/// Too short a route buffer is refused in method 5 alone, and in no method is
+/// more of it written than the route.
+#[test]
+fn route_buffers_of_every_length() {
+    let mut random = Random::new(SEED + 15);
+    let mut compared = 0;
+    for turn in 0..400 {
+        let (method, n) = (METHODS[turn % 4], 1 + random.below(6));
+        let m = random.below(9);
+        let request = request(&mut random, method, n, m);
+        let places = Public::read(request[0]).route_length();
+        for length in 0..n as usize + 3 {
+            let mut lent = buffers(&mut random, request[0]);
+            lent.route = random.cells(length);
+            let before = lent.route.clone();
+            let (outcome, left) = compare(&request, lent);
+            assert_eq!(outcome.number == 8, length < places, "{request:x?}");
+            let written = if outcome.number == 0 { places } else { 0 };
+            assert_eq!(left.route[written..], before[written..]);
+            compared += 1;
+        }
+    }
+    println!("{compared} route buffers");
+}
+
+/// A destination is looked at whole, after the buffers and all edges.
+#[test]
+fn refused_destinations() {
+    let mut random = Random::new(SEED + 16);
+    for n in [1, 2, 31, 32] {
+        let valid = request(&mut random, 5, n, 2);
+        let public = Public::read(valid[0]);
+        for bad in [n, 255, 1 << 8, 1 << 32, 1 << 63, u64::MAX] {
+            let destined = [&valid[..3], &[bad]].concat();
+            let lent = buffers(&mut random, valid[0]);
+            let (outcome, _) = compare(&destined, lent.clone());
+            assert_eq!((outcome.number, outcome.place), (16, None));
+            let short = Buffers {
+                parents: vec![],
+                ..lent.clone()
+            };
+            assert_eq!(compare(&destined, short).0.number, 8);
+            for at in [1, 2] {
+                for number in [10, 11, 13, 14] {
+                    let mut faulty = destined.clone();
+                    faulty[at] = faults::word(&mut random, &public, 0, &[number]);
+                    compare_faults(&mut random, &faulty, at, &[number]);
+                }
+            }
+        }
+    }
+}
+
+#[test]
 fn middle_requests() {
     let mut random = Random::new(SEED + 1);
     for _ in 0..200 {
         let (n, m) = (7 + random.below(8), random.below(40));
-        let method = 1 + random.below(3);
+        let method = random.one_of(&METHODS);
         let request = request(&mut random, method, n, m);
         let lent = buffers(&mut random, request[0]);
         compare(&request, lent);
@@ -234,6 +385,7 @@ fn full_size_requests() {
         (1, 12, 1_060_837, 166_832),
         (2, 40, 44_227, 9_633),
         (3, 20, 437_222, 38_151),
+        (5, 12, 1_072_197, 166_832),
     ] {
         for _ in 0..runs {
             let request = request(&mut random, method, 32, 128);
@@ -247,7 +399,7 @@ fn full_size_requests() {
 #[test]
 fn full_size_negative_cycle_around_all_vertices() {
     let mut random = Random::new(SEED + 3);
-    for method in [1, 3] {
+    for method in [1, 3, 5] {
         let mut request = vec![pack(method, 32, 128, 0)];
         // Against the order of the edges a pass of method 1 moves one step only.
         for i in 0..128 {
@@ -255,11 +407,17 @@ fn full_size_negative_cycle_around_all_vertices() {
             let weight = if tail == 31 { -31 } else { 1 };
             request.push(edge_word(tail, (tail + 1) % 32, weight));
         }
-        if method == 3 {
-            request[1..].sort_by_key(|&word| head(word));
+        match method {
+            3 => request[1..].sort_by_key(|&word| head(word)),
+            5 => request.push(31),
+            _ => (),
         }
         let lent = buffers(&mut random, request[0]);
-        assert_eq!(compare(&request, lent.clone()).0.number, 0);
+        let (outcome, left) = compare(&request, lent.clone());
+        assert_eq!(outcome.number, 0);
+        // Method 5's route leads through all vertices.
+        let places = Public::read(request[0]).route_length();
+        assert!(left.route[..places].iter().all(|&edge| edge >= 0));
         for word in request.iter_mut().skip(1).filter(|word| **word >> 56 == 31) {
             *word = edge_word(31, 0, -32);
         }
@@ -273,9 +431,10 @@ fn solved_requests() {
     let mut random = Random::new(SEED + 7);
     let mut roomy = Buffers {
         cells: vec![0; 8_874],
-        log: vec![0; 1_060_837],
+        log: vec![0; 1_072_197],
         distances: vec![0; 32],
         parents: vec![0; 32],
+        route: vec![0; 31],
     };
     for _ in 0..10_000 {
         let mut request = small_request(&mut random);
@@ -296,7 +455,7 @@ fn solved_requests() {
 
 fn compare_routes(routes: &Routes, expected: &Outcome, left: &Buffers) {
     let report = routes.report;
-    let values = [report.rounds, report.log_length, report.verdict, 0];
+    let values = [report.rounds, report.log_length, report.verdict, 0, 0];
     assert_eq!(ran(0, values), *expected);
     assert_eq!(routes.log, left.log[..routes.log.len()]);
     assert_eq!(routes.log.len() as u64, report.log_length);
@@ -306,16 +465,21 @@ fn compare_routes(routes: &Routes, expected: &Outcome, left: &Buffers) {
         let parent = routes.parents[vertex].map_or(-1, |parent| parent as i64);
         assert_eq!(parent, left.parents[vertex]);
     }
+    let places = Public::read(routes.header.word()).route_length();
+    let shown: Vec<i64> = routes.route.iter().map(|&edge| edge as i64).collect();
+    let (route, padding) = left.route[..places].split_at(shown.len());
+    assert_eq!(shown, route);
+    assert!(padding.iter().all(|&edge| edge == -1));
 }
 
 #[test]
 fn refusals_have_sentences_of_their_own() {
     let place = None;
-    let texts = (1..=15).map(|number| Refusal { number, place }.to_string());
+    let texts = (1..=16).map(|number| Refusal { number, place }.to_string());
     let sentences: HashSet<String> = texts
         .map(|text| text.split_once(": ").expect("a number first").1.to_string())
         .collect();
-    assert_eq!(sentences.len(), 15);
+    assert_eq!(sentences.len(), 16);
     let placed = Refusal {
         number: 11,
         place: Some(0),
@@ -340,7 +504,7 @@ fn compare_plan(plan: &[u64], cells: Vec<i64>, log: Vec<u64>) -> Outcome {
     let (mut our_cells, mut our_log) = (cells.clone(), log.clone());
     let (mut their_cells, mut their_log) = (cells, log);
     let outcome = match vukstaja::run_plan(plan, &mut our_cells, &mut our_log) {
-        Ok(report) => ran(0, [report.rounds, report.log_length, 0, 0]),
+        Ok(report) => ran(0, [report.rounds, report.log_length, 0, 0, 0]),
         Err(refusal) => refused(refusal),
     };
     let expected = reference::run_plan(plan, &mut their_cells, &mut their_log);
@@ -400,8 +564,8 @@ fn plan_cells(random: &mut Random, count: usize) -> Vec<i64> {
 #[test]
 fn empty_plan() {
     let outcome = compare_plan(&[], vec![5], vec![6]);
-    assert_eq!(outcome, ran(0, [0; 4]));
-    assert_eq!(compare_plan(&[], vec![], vec![]), ran(0, [0; 4]));
+    assert_eq!(outcome, ran(0, [0; 5]));
+    assert_eq!(compare_plan(&[], vec![], vec![]), ran(0, [0; 5]));
 }
 
 /// Every word leans on the one before it, so no run has more rounds than this.
@@ -414,7 +578,7 @@ fn last_place_of_a_plan() {
     plan.pop();
     assert_eq!(compare_plan(&plan, vec![3], vec![0; 2]).number, 7);
     let outcome = compare_plan(&plan, vec![3], vec![0; places]);
-    assert_eq!(outcome, ran(0, [100_663_290, places as u64, 0, 0]));
+    assert_eq!(outcome, ran(0, [100_663_290, places as u64, 0, 0, 0]));
 }
 
 /// Runs a plan of that many words on random cells, enough for those named; its
@@ -537,7 +701,7 @@ fn plans_on_small_stacks() {
 fn compare_written(header: &[u64], lent: Vec<u64>) -> Outcome {
     let (mut ours, mut theirs) = (lent.clone(), lent);
     let outcome = match vukstaja::write_plan(header, &mut ours) {
-        Ok(length) => ran(0, [length, 0, 0, 0]),
+        Ok(length) => ran(0, [length, 0, 0, 0, 0]),
         Err(refusal) => refused(refusal),
     };
     assert_eq!(outcome, reference::write_plan(header, &mut theirs));
@@ -564,6 +728,16 @@ fn written_plans() {
     }
 }
 
+/// The length of a plan that the rules state for a header.
+fn stated_length(method: Method, n: u64, m: u64) -> u64 {
+    match method {
+        Method::BellmanFord => 3 * n + 4 + m * (8 * n * n + 3 * n - 1),
+        Method::Dijkstra => n * n * n + 11 * n * n + 6 * n + 3,
+        Method::SortedBellmanFord => 3 * n * n + 3 * n + 5 + m * (3 * n * n + 10 * n - 1),
+        Method::BellmanFordRoute => m * (8 * n * n + 5 * n) + 3 * n * n + 2 * n + 4,
+    }
+}
+
 /// The rounds that the rules state for a header.
 fn stated_rounds(method: Method, n: u64, m: u64) -> u64 {
     match method {
@@ -572,13 +746,22 @@ fn stated_rounds(method: Method, n: u64, m: u64) -> u64 {
         Method::Dijkstra => 9 * n * n + 13 * n + 1,
         Method::SortedBellmanFord if m == 0 => 8 * n + 1,
         Method::SortedBellmanFord => 9 * n * m + n * n + 8 * n + 7,
+        Method::BellmanFordRoute if m == 0 => (n * n + 5 * n - 5).max(2),
+        Method::BellmanFordRoute => {
+            let [verdict, route] = [m * n + n + 16, m + n * n + 5 * n + 1];
+            m * (n - 1) * (n + 9) + verdict.max(route)
+        }
     }
 }
 
 /// Every number of vertices and every number of edges occurs here.
 #[test]
 fn written_plans_have_the_stated_lengths_and_rounds() {
-    let edges = [Method::BellmanFord, Method::SortedBellmanFord];
+    let edges = [
+        Method::BellmanFord,
+        Method::SortedBellmanFord,
+        Method::BellmanFordRoute,
+    ];
     let pairs = (0..=128).flat_map(|m| edges.map(|method| (method, 1 + m % 32, m)));
     let tables = (1..=32).map(|n| (Method::Dijkstra, n, 0));
     for (method, n, m) in pairs.chain(tables) {
@@ -591,11 +774,13 @@ fn written_plans_have_the_stated_lengths_and_rounds() {
         let word = header.word();
         assert_eq!(Header::from_word(word), Some(header));
         let plan = reference::plan_words(word);
+        let length = stated_length(method, n.into(), m.into());
+        assert_eq!(plan.len() as u64, length);
         let rounds = reference::depth::rounds(&plan[1..], Public::read(word).cells());
         assert_eq!(rounds, stated_rounds(method, n.into(), m.into()));
         assert_eq!(compare_sizes(&[word]).number, 0);
         let outcome = compare_written(&[word], vec![7; plan.len() + 2]);
-        assert_eq!(outcome.values[0], plan.len() as u64);
+        assert_eq!(outcome.values[0], length);
         assert_eq!(compare_written(&[word], vec![7; plan.len() - 1]).number, 7);
     }
 }
@@ -603,7 +788,13 @@ fn written_plans_have_the_stated_lengths_and_rounds() {
 fn compare_sizes(header: &[u64]) -> Outcome {
     let outcome = match vukstaja::sizes(header) {
         Ok(sizes) => {
-            let lengths = [sizes.cells, sizes.log, sizes.distances, sizes.parents];
+            let lengths = [
+                sizes.cells,
+                sizes.log,
+                sizes.distances,
+                sizes.parents,
+                sizes.route,
+            ];
             ran(0, lengths.map(|length| length as u64))
         }
         Err(refusal) => refused(refusal),
@@ -627,9 +818,10 @@ fn sizes_of_headers() {
     println!("20000 headers' sizes, by number: {seen:?}");
     assert!(seen.iter().all(|&count| count > 100), "{seen:?}");
     let most = [
-        (1, 128, [488, 1_060_837, 32, 32]),
-        (2, 0, [1190, 44_227, 32, 32]),
-        (3, 128, [8_874, 437_222, 32, 32]),
+        (1, 128, [488, 1_060_837, 32, 32, 0]),
+        (2, 0, [1190, 44_227, 32, 32, 0]),
+        (3, 128, [8_874, 437_222, 32, 32, 0]),
+        (5, 128, [552, 1_072_197, 32, 32, 31]),
     ];
     for (method, m, sizes) in most {
         assert_eq!(compare_sizes(&[pack(method, 32, m, 31)]), ran(0, sizes));
@@ -760,6 +952,47 @@ fn requests_of_method_3() {
         number(&[&[pack(3, 2, 2, 0)], &dear[..]].concat()),
         (11, Some(1))
     );
+}
+
+/// Routes by hand, the last edge first, and the destination's place in the order.
+#[test]
+fn requests_of_method_5() {
+    let route = |n: u64, edges: &[u64], rest: &[u64]| {
+        let header = pack(5, n, edges.len() as u64, 0);
+        let routes = vukstaja::solve(&[&[header], edges, rest].concat());
+        let route = routes.map(|routes| routes.route);
+        route.map_err(|refusal| (refusal.number, refusal.place))
+    };
+    let chain = [edge_word(2, 3, 1), edge_word(0, 1, 2), edge_word(1, 2, -4)];
+    assert_eq!(route(4, &chain, &[3]), Ok(vec![0, 2, 1]));
+    assert_eq!(route(4, &chain, &[2]), Ok(vec![2, 1]));
+    assert_eq!(route(4, &chain, &[1]), Ok(vec![1]));
+    // The source, and a vertex that no walk reaches, have no edges to show.
+    assert_eq!(route(4, &chain, &[0]), Ok(vec![]));
+    assert_eq!(route(5, &chain, &[4]), Ok(vec![]));
+    // Of equal totals the one that was there first stays.
+    let tied = [edge_word(0, 2, 3), edge_word(0, 1, 1), edge_word(1, 2, 2)];
+    assert_eq!(route(3, &tied, &[2]), Ok(vec![0]));
+    // A cycle of total 0 is not gone around, not even the source's own.
+    let around = [edge_word(2, 1, 3), edge_word(1, 2, -3), edge_word(0, 1, 7)];
+    assert_eq!(route(3, &around, &[2]), Ok(vec![1, 2]));
+    assert_eq!(route(3, &around, &[1]), Ok(vec![2]));
+    let home = [edge_word(0, 1, 5), edge_word(1, 0, -5), edge_word(0, 0, 0)];
+    assert_eq!(route(2, &home, &[0]), Ok(vec![]));
+    assert_eq!(route(2, &home, &[1]), Ok(vec![0]));
+    let falling = [edge_word(0, 1, 5), edge_word(1, 0, -6)];
+    assert_eq!(route(2, &falling, &[1]), Err((12, None)));
+    // The destination is one word, refused after all edges and without place.
+    assert_eq!(route(4, &chain, &[]), Err((5, None)));
+    assert_eq!(route(4, &chain, &[3, 0]), Err((5, None)));
+    assert_eq!(route(4, &chain, &[4]), Err((16, None)));
+    assert_eq!(route(4, &chain, &[1 << 63]), Err((16, None)));
+    let dear = [edge_word(0, 1, 5), edge_word(0, 1, 1_000_001)];
+    assert_eq!(route(4, &dear, &[4]), Err((11, Some(1))));
+    let empty = vukstaja::solve(&[pack(5, 1, 0, 0), 0]).expect("no edges run");
+    assert_eq!((empty.report.rounds, empty.log.len()), (2, 10));
+    let apart = vukstaja::solve(&[pack(5, 3, 0, 1), 2]).expect("no edges run");
+    assert_eq!((apart.report.rounds, apart.log.len()), (19, 38));
 }
 
 #[test]

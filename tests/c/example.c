@@ -1,5 +1,5 @@
-/* The four calls from C: the printed request of the rules, its sizes, its plan, the plan run from outside, a request of
- * method 3, and refusals. */
+/* The four calls from C: the printed request of the rules, its sizes, its plan, the plan run from outside, requests of
+ * methods 3 and 5, and refusals. */
 #include <inttypes.h>
 #include <stdio.h>
 #include <stdlib.h>
@@ -8,23 +8,23 @@
 
 /* What a run is lent. */
 struct buffers {
-    size_t cells_length, log_length, distances_length, parents_length;
-    int64_t *cells, *distances, *parents;
+    size_t cells_length, log_length, distances_length, parents_length, route_length;
+    int64_t *cells, *distances, *parents, *route;
     uint64_t *log;
 };
 
 static void print_answer(const char *call, const vukstaja_answer answer)
 {
     printf("%s:", call);
-    for (int i = 0; i < 7; i++)
+    for (int i = 0; i < 8; i++)
         printf(" %" PRIu64, answer[i]);
     printf("\n");
 }
 
-/* As many zeros of eight bytes each. */
+/* As many zeros of eight bytes each, and one more: of none, calloc may make a null pointer. */
 static void *zeros(size_t count)
 {
-    void *made = calloc(count, 8);
+    void *made = calloc(count + 1, 8);
     if (made == NULL) {
         fprintf(stderr, "no memory for %zu numbers\n", count);
         exit(1);
@@ -45,10 +45,12 @@ static struct buffers made_for(uint64_t header)
         .log_length = sizes[VUKSTAJA_LOG],
         .distances_length = sizes[VUKSTAJA_DISTANCES],
         .parents_length = sizes[VUKSTAJA_PARENTS],
+        .route_length = sizes[VUKSTAJA_ROUTE],
         .cells = zeros(sizes[VUKSTAJA_CELLS]),
         .log = zeros(sizes[VUKSTAJA_LOG]),
         .distances = zeros(sizes[VUKSTAJA_DISTANCES]),
         .parents = zeros(sizes[VUKSTAJA_PARENTS]),
+        .route = zeros(sizes[VUKSTAJA_ROUTE]),
     };
 }
 
@@ -58,12 +60,23 @@ static void give_back(struct buffers *lent)
     free(lent->log);
     free(lent->distances);
     free(lent->parents);
+    free(lent->route);
 }
 
 static void run(const uint64_t *request, size_t length, struct buffers *lent, vukstaja_answer *answer)
 {
     vukstaja_run(request, length, lent->cells, lent->cells_length, lent->log, lent->log_length,
-                 lent->distances, lent->distances_length, lent->parents, lent->parents_length, answer);
+                 lent->distances, lent->distances_length, lent->parents, lent->parents_length,
+                 lent->route, lent->route_length, answer);
+}
+
+/* The edges' numbers, the last edge first; the rest of the route is -1. */
+static void print_route(const struct buffers *lent)
+{
+    printf("route");
+    for (size_t k = 0; k < lent->route_length && lent->route[k] != -1; k++)
+        printf(" %" PRId64, lent->route[k]);
+    printf("\n");
 }
 
 static void run_request(const uint64_t *request, size_t length)
@@ -74,6 +87,8 @@ static void run_request(const uint64_t *request, size_t length)
     print_answer("run", answer);
     for (size_t v = 0; v < lent.distances_length; v++)
         printf("%zu %" PRId64 " %" PRId64 "\n", v, lent.distances[v], lent.parents[v]);
+    if (lent.route_length > 0)
+        print_route(&lent);
     give_back(&lent);
 }
 
@@ -125,14 +140,28 @@ static void be_refused_unsorted(void)
     give_back(&lent);
 }
 
+static void be_refused_destination(void)
+{
+    const uint64_t request[] = {0x5000020000100000, 0x0001000000000000, 2};
+    struct buffers lent = made_for(request[0]);
+    vukstaja_answer answer;
+    run(request, 3, &lent, &answer);
+    print_answer("a route to vertex 2 of 2", answer);
+    give_back(&lent);
+}
+
 int main(void)
 {
     const uint64_t printed[] = {0x1000020000100000, 0x00010000FFFFFFFB};
     const uint64_t sorted[] = {0x3000030000300000, 0x0001000000000007, 0x02010000FFFFFFFC, 0x0002000000000009};
+    const uint64_t routed[] = {0x5000040000400000, 0x0203000000000001, 0x0002000000000009,
+                               0x02010000FFFFFFFC, 0x0001000000000007, 1};
     run_request(printed, 2);
     run_written_plan();
     run_request(sorted, 4);
+    run_request(routed, 6);
     be_refused();
     be_refused_unsorted();
+    be_refused_destination();
     return 0;
 }

@@ -14,16 +14,15 @@ TABLE = {SET: ("", 1), COPY: ("a", 0), ADD: ("ab", 0), LESS: ("ab", 6),
          OPEN: ("a", 1)}
 
 
-def leans_on(operations, place):
-    """The places of the words that the word at a place leans on."""
-    op, d, a, b = operations[place]
-    fields = {"d": d, "a": a, "b": b}
-    for cell in {fields[name] for name in TABLE[op][0]}:
-        for earlier in reversed(range(place)):
-            writer, written, _, _ = operations[earlier]
-            if writer != OPEN and written == cell:
-                yield earlier
-                break
+def leans_on(operations):
+    """For each word, the places of those that it leans on."""
+    writers = {}
+    for place, (op, d, a, b) in enumerate(operations):
+        fields = {"d": d, "a": a, "b": b}
+        read = {fields[name] for name in TABLE[op][0]}
+        yield [writers[cell] for cell in read if cell in writers]
+        if op != OPEN:
+            writers[d] = place
 
 
 def heaviest_chain(operations):
@@ -32,11 +31,12 @@ def heaviest_chain(operations):
     Going from the last word to the first, `after` has what the heaviest chain
     that begins behind a word adds to it.
     """
+    leaning = list(leans_on(operations))
     after = [0] * len(operations)
     heaviest = 0
     for place in reversed(range(len(operations))):
         weight = TABLE[operations[place][0]][1] + after[place]
         heaviest = max(heaviest, weight)
-        for earlier in leans_on(operations, place):
+        for earlier in leaning[place]:
             after[earlier] = max(after[earlier], weight)
     return heaviest

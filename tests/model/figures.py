@@ -1,6 +1,6 @@
 """The expected figures of the larger networks.
 
-Prints a block for each of eight cases.  The first line of a block is
+Prints a block for each of eleven cases.  The first line of a block is
 
     method yards lanes source rounds length verdict checksum
 
@@ -8,7 +8,8 @@ where length counts the log's words and the checksum goes over them in order:
 s starts at 0 and becomes (s * 31 + w) mod 1000000007, w being the word read as
 an unsigned number, mod 1000000007.  With verdict 0 a line `yard distance
 parent` follows for each yard, `-` for an unreached yard's distance and for no
-parent.  With verdict 1 nothing follows.
+parent, and in method 5 then a line `route` with the numbers of the lanes shown.
+With verdict 1 nothing follows.
 
 The rule of the networks.  Division drops the remainder; neither it nor mod
 meets a negative number, and nothing exceeds 62 bits.  A negative price goes
@@ -20,7 +21,8 @@ beginning with x = its seed:
 
 Draws are made in the order in which they are written below, and only where
 they are written.  All cases have 32 yards, numbered v; those of method 1 have
-60 lanes, those of method 3 have 128, numbered i and built upward from 0.
+60 lanes, those of method 3 have 128, those of method 5 have 59, numbered i and
+built upward from 0.
 
 Case a: method 1, source 0, seed 252.
     h(v)  = (373 * v + 500) mod 1009
@@ -70,13 +72,22 @@ Case h: method 3, source 5, seed 282.  The h of case c.
                             from >= 24:  price = -1 - draw(3)
     i >= 96:  to = 24 + (i - 96) / 8 * 2, from = 24 + draw(8)
               price = -1 - draw(3)
+
+Case i: method 5, source 0, seed 1000, destination 31.  Lanes as in case a.
+
+Case j: method 5, source 0, seed 2, destination 31.  Lanes as in case b, with 58
+in place of 59.
+
+Case k: method 5, source 5, seed 940, destination 10.  Lanes as in case c.
 """
+
+from functools import partial
 
 import model
 import network
 
 YARDS = 32
-LANES = {1: 60, 3: 128}
+LANES = {1: 60, 3: 128, 5: 59}
 CHECKSUM_FACTOR = 31
 CHECKSUM_MODULUS = 1_000_000_007
 
@@ -102,12 +113,12 @@ def raised(height, origin, target, base):
 
 
 def steep(v):
-    """The height of a yard in cases a, b, f and g."""
+    """The height of a yard in cases a, b, f, g, i and j."""
     return (373 * v + 500) % 1009
 
 
 def stepped(v):
-    """The height of a yard in cases c and h, the same for every three."""
+    """The height of a yard in cases c, h and k, the same for every three."""
     return v // 3 * 7 % 11
 
 
@@ -119,11 +130,11 @@ def lane_of_case_a(draws, i):
     return raised(steep, origin, target, draws.below(400))
 
 
-def lane_of_case_b(draws, i):
+def lane_of_case_b(draws, i, last):
     """A loss circle of total -1 through every yard, and no other."""
     if i < YARDS - 1:
         return raised(steep, 30 - i, 31 - i, 0)
-    if i == LANES[1] - 1:
+    if i == last:
         return raised(steep, 31, 0, -1)
     origin, target = draws.below(YARDS), draws.below(YARDS)
     return raised(steep, origin, target, 1 + draws.below(400))
@@ -187,11 +198,11 @@ def lane_of_case_h(draws, i):
     return reached_or_rebate(draws, draws.below(YARDS), target)
 
 
-def lane_network(method, source, seed, lane_of):
+def lane_network(method, source, seed, lane_of, destination=None):
     """A network whose lanes follow a case's rule."""
     draws = Draws(seed)
     lanes = [lane_of(draws, i) for i in range(LANES[method])]
-    return network.Network(method, YARDS, source, lanes)
+    return network.Network(method, YARDS, source, lanes, destination)
 
 
 def table_network(source, seed, price_of):
@@ -204,15 +215,18 @@ def table_network(source, seed, price_of):
 
 
 def networks():
-    """The networks of the eight cases in order."""
+    """The networks of the eleven cases in order."""
     return [lane_network(1, 0, 252, lane_of_case_a),
-            lane_network(1, 0, 2, lane_of_case_b),
+            lane_network(1, 0, 2, partial(lane_of_case_b, last=59)),
             lane_network(1, 5, 110, lane_of_case_c),
             table_network(0, 4, price_of_case_d),
             table_network(31, 5, price_of_case_e),
             lane_network(3, 0, 577, lane_of_case_f),
             lane_network(3, 0, 2, lane_of_case_g),
-            lane_network(3, 5, 282, lane_of_case_h)]
+            lane_network(3, 5, 282, lane_of_case_h),
+            lane_network(5, 0, 1000, lane_of_case_a, 31),
+            lane_network(5, 0, 2, partial(lane_of_case_b, last=58), 31),
+            lane_network(5, 5, 940, lane_of_case_c, 10)]
 
 
 def checksum(log):
@@ -226,15 +240,15 @@ def checksum(log):
 
 def block(case):
     """The lines of one case, held against the second computation."""
-    finished = network.run(case)
+    header, finished = network.header_of(case), network.run(case)
     if not network.agrees_with_walks(case, finished):
         raise SystemExit("figures: the model and the walks disagree")
     rounds, length, verdict = finished.answer
-    figures = (*network.header_of(case), rounds, length, verdict,
-               checksum(finished.log))
+    figures = *header, rounds, length, verdict, checksum(finished.log)
     lines = [" ".join(map(str, figures))]
     if verdict == 0:
-        lines += model.yard_lines(finished.distances, finished.parents)
+        lines += model.result_lines(header, finished.distances,
+                                    finished.parents, finished.route)
     return lines
 
 

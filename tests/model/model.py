@@ -15,6 +15,7 @@ HIGHEST_PRICE = 1_000_000
 PLAN_PLACES = 16_777_216
 DESK_LOG_WORDS = 8192
 DESK_CELLS = 1190
+DESK_RESULTS = MOST_YARDS, MOST_YARDS, MOST_YARDS - 1
 
 SET, COPY, ADD, LESS, EQUAL, BOTH, MOVEIF, OPEN = range(8)
 ROUNDS = (1, 0, 0, 6, 6, 1, 1, 1)
@@ -32,7 +33,7 @@ Header = namedtuple("Header", "method yards lanes source")
 Lane = namedtuple("Lane", "origin target spare price")
 TableEntry = namedtuple("TableEntry", "spare price")
 Operation = namedtuple("Operation", "op d a b")
-Lent = namedtuple("Lent", "cells log distances parents")
+Lent = namedtuple("Lent", "cells log distances parents route")
 Refusal = namedtuple("Refusal", "number place", defaults=(None,))
 RequestRan = namedtuple("RequestRan", "rounds log_length verdict")
 PlanRan = namedtuple("PlanRan", "rounds log_length")
@@ -41,8 +42,11 @@ Cells1 = namedtuple("Cells1", "origin target price D P Y X verdict total")
 Cells2 = namedtuple("Cells2", "U D P Y O R X verdict total")
 Cells3 = namedtuple(
     "Cells3", "origin B target price D P Y N Q X S F T verdict total")
+Cells5 = namedtuple(
+    "Cells5", "origin target price D P Y X verdict Z B R total")
 Form = namedtuple("Form", "most_lanes word_count strips")
-Method = namedtuple("Method", "form word_refusal cells plan length")
+Method = namedtuple("Method", "form word_refusal cells plan length has_route",
+                    defaults=(False,))
 
 
 # Words and their fields
@@ -87,13 +91,13 @@ def split_header(word):
 
 
 def join_lane(lane):
-    """The lane word of methods 1 and 3."""
+    """The lane word of methods 1, 3 and 5."""
     fields = lane._replace(price=to_unsigned(lane.price, PRICE_BITS))
     return join_fields(fields, LANE_WIDTHS)
 
 
 def split_lane(word):
-    """The lane of a lane word of methods 1 and 3."""
+    """The lane of a lane word of methods 1, 3 and 5."""
     lane = Lane(*split_fields(word, LANE_WIDTHS))
     return lane._replace(price=to_signed(lane.price, PRICE_BITS))
 
@@ -150,6 +154,13 @@ def cells_of_method_3(header):
                   verdict=X + 8, total=F + 2 * n * m)
 
 
+def cells_of_method_5(header):
+    """Where the cells of method 5 lie, method 1's first, and how many."""
+    n, shared = header.yards, cells_of_method_1(header)
+    Z = shared.total
+    return Cells5(*shared[:-1], Z=Z, B=Z + 1, R=Z + n + 1, total=Z + 2 * n)
+
+
 # The plans
 
 def set_to(d, number):
@@ -192,7 +203,7 @@ def betters(cells, i, v):
 
 
 def relax_lane(cells, n, i):
-    """Lane i in one of the n-1 passes of method 1."""
+    """Lane i in one of the n-1 passes of methods 1 and 5."""
     X = cells.X
     operations = read_origin(cells, n, i) + try_lane(cells, i)
     operations.append(set_to(X + 3, i))
@@ -204,7 +215,7 @@ def relax_lane(cells, n, i):
 
 
 def check_lane(cells, n, i):
-    """Lane i in the check of method 1."""
+    """Lane i in the check of methods 1 and 5."""
     X = cells.X
     operations = read_origin(cells, n, i) + try_lane(cells, i)
     for v in range(n):
@@ -213,10 +224,9 @@ def check_lane(cells, n, i):
     return operations
 
 
-def plan_of_method_1(header):
-    """The operations of method 1 in order, as (op, d, a, b)."""
+def find_distances(header, cells):
+    """Opening, passes and check of methods 1 and 5."""
     n, m = header.yards, header.lanes
-    cells = cells_of_method_1(header)
     for v in range(n):
         yield from open_yard(header, cells, v)
     yield set_to(cells.X, FAR)
@@ -226,6 +236,12 @@ def plan_of_method_1(header):
             yield from relax_lane(cells, n, i)
     for i in range(m):
         yield from check_lane(cells, n, i)
+
+
+def plan_of_method_1(header):
+    """The operations of method 1 in order, as (op, d, a, b)."""
+    cells = cells_of_method_1(header)
+    yield from find_distances(header, cells)
     yield OPEN, 0, cells.verdict, 0
 
 
@@ -357,6 +373,41 @@ def plan_of_method_3(header):
     yield OPEN, 0, cells.verdict, 0
 
 
+def find_yards_before(cells, n, m):
+    """To B+v the from-yard of v's parent lane, v itself where there is none."""
+    X = cells.X
+    operations = [(COPY, cells.B + v, cells.Y + v, 0) for v in range(n)]
+    for i in range(m):
+        operations.append(set_to(X + 3, i))
+        for v in range(n):
+            operations += [(EQUAL, X + 5, cells.P + v, X + 3),
+                           (MOVEIF, cells.B + v, X + 5, cells.origin + i)]
+    return operations
+
+
+def follow_parents(cells, n):
+    """To R the parents met on the way back from the destination."""
+    X = cells.X
+    operations = [(COPY, X + 1, cells.Z, 0)]
+    for k in range(n - 1):
+        operations.append((COPY, X + 2, X + 1, 0))
+        for v in range(n):
+            operations += [(EQUAL, X + 5, X + 2, cells.Y + v),
+                           (MOVEIF, cells.R + k, X + 5, cells.P + v),
+                           (MOVEIF, X + 1, X + 5, cells.B + v)]
+    return operations
+
+
+def plan_of_method_5(header):
+    """The operations of method 5 in order, as (op, d, a, b)."""
+    n, m = header.yards, header.lanes
+    cells = cells_of_method_5(header)
+    yield from find_distances(header, cells)
+    yield from find_yards_before(cells, n, m)
+    yield from follow_parents(cells, n)
+    yield OPEN, 0, cells.verdict, 0
+
+
 # The words after the header: their tests, and the cells they fill
 
 def lane_refusal(header, inputs, place):
@@ -382,6 +433,16 @@ def sorted_lane_refusal(header, inputs, place):
     return Refusal(15, place) if lane.target < before.target else None
 
 
+def routed_refusal(header, inputs, place):
+    """The first refusal of a word in method 5, or None.
+
+    The last word is the destination, and its refusal, 16, has no place.
+    """
+    if place < header.lanes:
+        return lane_refusal(header, inputs, place)
+    return Refusal(16) if inputs[place] >= header.yards else None
+
+
 def table_refusal(_, inputs, place):
     """The first of refusals 10 and 11 of one table word, or None."""
     entry = split_table_entry(inputs[place])
@@ -400,6 +461,13 @@ def lane_strips(cells, inputs):
             (cells.price, [lane.price for lane in lanes])]
 
 
+def routed_strips(cells, inputs):
+    """The strips of the lanes, and the destination's one cell."""
+    *lanes, destination = inputs
+    return [*lane_strips(cells, lanes),
+            (cells.Z, [to_signed(destination, CELL_BITS)])]
+
+
 def table_strips(cells, inputs):
     """The first cell of the table, and what is laid from it."""
     prices = [split_table_entry(word).price for word in inputs]
@@ -407,11 +475,13 @@ def table_strips(cells, inputs):
 
 
 # What differs by method: how its network is given, the test of a word after
-# the header, the places of the cells, the plan, and its length from n and m.
+# the header, the places of the cells, the plan, its length from n and m, and
+# whether there is a route among the results.
 # How a network is given: the limit of m, how many words follow the header, and
 # where they are laid.
 
 LANES = Form(MOST_LANES, lambda header: header.lanes, lane_strips)
+ROUTED_LANES = Form(MOST_LANES, lambda header: header.lanes + 1, routed_strips)
 TABLE = Form(0, lambda header: header.yards ** 2, table_strips)
 METHODS = {
     1: Method(LANES, lane_refusal, cells_of_method_1, plan_of_method_1,
@@ -421,11 +491,15 @@ METHODS = {
     3: Method(LANES, sorted_lane_refusal, cells_of_method_3, plan_of_method_3,
               lambda n, m: (3 * n * n + 3 * n + 5
                             + m * (3 * n * n + 10 * n - 1))),
+    5: Method(ROUTED_LANES, routed_refusal, cells_of_method_5,
+              plan_of_method_5,
+              lambda n, m: (3 * n * n + 2 * n + 4
+                            + m * (8 * n * n + 5 * n)), has_route=True),
 }
 
 
 def form_of(method):
-    """How a method's network is given, LANES or TABLE."""
+    """How a method's network is given, one of the three above."""
     return METHODS[method].form
 
 
@@ -447,6 +521,18 @@ def plan_length(header):
 def log_length(header):
     """The words of a request's log: its plan and the published cells."""
     return plan_length(header) + (cells_of(header).verdict is not None)
+
+
+def has_route(header):
+    """Whether the results of the header's method have a route."""
+    return METHODS[header.method].has_route
+
+
+def lengths_needed(header):
+    """The lengths of the buffers that a request needs."""
+    n = header.yards
+    return Lent(cells_of(header).total, log_length(header), n, n,
+                n - 1 if has_route(header) else 0)
 
 
 def plan_operations(header):
@@ -586,11 +672,13 @@ def buffer_refusal(header, word_count, lent):
     """The first of refusals 5 to 8, or None."""
     if word_count != words_expected(header):
         return Refusal(5)
-    if lent.cells < cells_of(header).total:
+    needed = lengths_needed(header)
+    if lent.cells < needed.cells:
         return Refusal(6)
-    if lent.log < log_length(header):
+    if lent.log < needed.log:
         return Refusal(7)
-    if min(lent.distances, lent.parents) < header.yards:
+    if (lent.distances < needed.distances or lent.parents < needed.parents
+            or lent.route < needed.route):
         return Refusal(8)
     return None
 
@@ -663,12 +751,12 @@ def verdict_of(header, cells):
     return 0 if opened is None else cells[opened]
 
 
-def run_request(words, cells, log, distances, parents):
+def run_request(words, cells, log, distances, parents, route):
     """Run a request: RequestRan or a Refusal.
 
     Verdict 1 is refusal 12, which leaves no results.
     """
-    lent = Lent(len(cells), len(log), len(distances), len(parents))
+    lent = Lent(*map(len, (cells, log, distances, parents, route)))
     refusal = request_refusal(words, lent)
     if refusal:
         return refusal
@@ -680,6 +768,8 @@ def run_request(words, cells, log, distances, parents):
     if verdict == 0:
         distances[:n] = cells[where.D:where.D + n]
         parents[:n] = cells[where.P:where.P + n]
+        if has_route(header):
+            route[:n - 1] = cells[where.R:where.R + n - 1]
     return RequestRan(ran.rounds, ran.log_length, verdict)
 
 
@@ -702,6 +792,11 @@ def write_plan(words, buffer):
     return PlanWritten(length)
 
 
+def sizes_needed(words):
+    """The lengths of the buffers that a header asks for, or a Refusal."""
+    return header_refusal(words) or lengths_needed(split_header(words[0]))
+
+
 # The desk's program
 
 def yard_lines(distances, parents):
@@ -709,6 +804,20 @@ def yard_lines(distances, parents):
     return [f"{v} {'-' if distance == FAR else distance}"
             f" {'-' if parent == -1 else parent}"
             for v, (distance, parent) in enumerate(zip(distances, parents))]
+
+
+def route_line(route):
+    """`route` and then the lanes shown, without the padding."""
+    return " ".join(["route", *(str(lane) for lane in route if lane != -1)])
+
+
+def result_lines(header, distances, parents, route):
+    """The lines of a run's results."""
+    n = header.yards
+    lines = yard_lines(distances[:n], parents[:n])
+    if has_route(header):
+        lines.append(route_line(route[:n - 1]))
+    return lines
 
 
 def refusal_line(refusal):
@@ -721,18 +830,17 @@ def desk_lines(data):
     """The lines the desk's program prints for the bytes it reads."""
     words = [int.from_bytes(data[k:k + 8], "big")
              for k in range(0, len(data) - 7, 8)]
-    distances, parents = [0] * MOST_YARDS, [0] * MOST_YARDS
+    results = [[0] * length for length in DESK_RESULTS]
     if len(data) % 8:
         answer = header_refusal(words) or Refusal(5)
     else:
         answer = run_request(words, [0] * DESK_CELLS, [0] * DESK_LOG_WORDS,
-                             distances, parents)
+                             *results)
     if isinstance(answer, RequestRan) and answer.verdict == 1:
         answer = Refusal(12)
     if isinstance(answer, Refusal):
         return [refusal_line(answer)]
     header = split_header(words[0])
     public = " ".join(map(str, header))
-    n = header.yards
     return [f"{public} {answer.rounds} {answer.verdict}",
-            *yard_lines(distances[:n], parents[:n])]
+            *result_lines(header, *results)]

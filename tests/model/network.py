@@ -2,21 +2,23 @@
 
 A network's lanes are triples (from-yard, to-yard, price).  In method 2 no two
 of them join the same yards in the same direction; in method 3 they are sorted
-by to-yard.
+by to-yard.  The destination is there in method 5 alone.
 """
 
 from collections import namedtuple
+from itertools import takewhile
 
 import model
 import walks
 
-Network = namedtuple("Network", "method yards source lanes")
-Run = namedtuple("Run", "answer start cells log distances parents")
+Network = namedtuple("Network", "method yards source lanes destination",
+                     defaults=(None,))
+Run = namedtuple("Run", "answer start cells log distances parents route")
 
 
 def has_lanes(network):
     """Whether a network's request has a word for each lane, and no table."""
-    return model.form_of(network.method) is model.LANES
+    return model.form_of(network.method) is not model.TABLE
 
 
 def header_of(network):
@@ -28,8 +30,10 @@ def header_of(network):
 def input_words(network):
     """The words after the header of a network's request."""
     if has_lanes(network):
-        return [model.join_lane(model.Lane(origin, target, 0, price))
-                for origin, target, price in network.lanes]
+        words = [model.join_lane(model.Lane(origin, target, 0, price))
+                 for origin, target, price in network.lanes]
+        destination = network.destination
+        return words + ([] if destination is None else [destination])
     prices = {(origin, target): price
               for origin, target, price in network.lanes}
     yards = range(network.yards)
@@ -50,13 +54,11 @@ def run(network, surplus=0, lent=0):
     """
     words = request_words(network)
     header = model.split_header(words[0])
-    cells = [lent] * (model.cells_of(header).total + surplus)
-    log = [lent] * (model.log_length(header) + surplus)
-    distances = [lent] * (header.yards + surplus)
-    parents = [lent] * (header.yards + surplus)
+    buffers = [[lent] * (length + surplus)
+               for length in model.lengths_needed(header)]
     start = model.intake(words) + [lent] * surplus
-    answer = model.run_request(words, cells, log, distances, parents)
-    return Run(answer, start, cells, log, distances, parents)
+    answer = model.run_request(words, *buffers)
+    return Run(answer, start, *buffers)
 
 
 def walk_distances(network):
@@ -95,15 +97,46 @@ def agrees_with_passes(network, finished):
             and finished.cells[where.P:where.P + n] == marked(numbers, -1))
 
 
+def shown_lanes(route):
+    """The lanes that a route shows, or None if not all the rest is -1."""
+    shown = list(takewhile(lambda number: number != -1, route))
+    return shown if set(route[len(shown):]) <= {-1} else None
+
+
+def agrees_with_parents(network, finished):
+    """Whether a run of method 5 left the route that its parents lead along.
+
+    The cells are looked at, which a loss circle leaves as well.
+    """
+    n, where = network.yards, model.cells_of(header_of(network))
+    parents = finished.cells[where.P:where.P + n]
+    numbers = [None if parent == -1 else parent for parent in parents]
+    met = walks.followed(network.destination, network.lanes, numbers, n - 1)
+    return shown_lanes(finished.cells[where.R:where.R + n - 1]) == met
+
+
+def agrees_with_route(network, finished, distances):
+    """Whether the route of a run of method 5 is a least walk's."""
+    shown = shown_lanes(finished.route[:network.yards - 1])
+    return shown is not None and walks.leads_to(
+        network.destination, network.lanes, network.source, shown,
+        distances[network.destination])
+
+
 def agrees_with_walks(network, finished):
-    """Whether a run's verdict, distances and parents are the right ones."""
+    """Whether a run's verdict and results are the right ones."""
     if network.method == 3 and not agrees_with_passes(network, finished):
+        return False
+    if network.method == 5 and not agrees_with_parents(network, finished):
         return False
     distances, loss_circle = walk_distances(network)
     if finished.answer.verdict != int(loss_circle):
         return False
     if loss_circle:
         return True
+    if network.method == 5 and not agrees_with_route(network, finished,
+                                                     distances):
+        return False
     n = network.yards
     found = [None if distance == model.FAR else distance
              for distance in finished.distances[:n]]

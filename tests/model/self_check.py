@@ -2,6 +2,7 @@
 
 import random
 from collections import Counter
+from itertools import islice
 
 import chains
 import figures
@@ -20,11 +21,13 @@ RANDOM_PAIRS = 150
 RANDOM_PLANS = 150
 RANDOM_DEPTHS = 500
 RANDOM_TIES = 60
+RANDOM_CHAINS = 30
 RANDOM_WALKS = 100
 LEAST_OF_A_SHAPE = 10
 SURPLUS = 3
 LENT = -7
 MOST_CELL = (1 << 63) - 1
+MOST_WORD = (1 << 64) - 1
 
 PLAN_OF_ONE_YARD = [int(word, 16) for word in (
     "1000010000000000 0000020000000000 0000000000000000 000001FFFFFFFFFF"
@@ -37,6 +40,9 @@ ROUNDS_STATED = {
     1: lambda n, m: m * (n * n + 9 * n - 9) + n + 16 if m else 2,
     2: lambda n, m: 9 * n * n + 13 * n + 1,
     3: lambda n, m: 9 * n * m + n * n + 8 * n + 7 if m else 8 * n + 1,
+    5: lambda n, m: (m * (n - 1) * (n + 9)
+                     + max(m * n + n + 16, m + n * n + 5 * n + 1)
+                     if m else max(2, n * n + 5 * n - 5)),
 }
 
 
@@ -64,7 +70,13 @@ def rounds_by_formula(header):
 
 def answer_to(words):
     """The answer to a request whose buffers are long enough for any small n."""
-    return model.run_request(words, [0] * 2000, [0] * 9000, [0] * 32, [0] * 32)
+    return model.run_request(words, [0] * 2000, [0] * 9000, [0] * 32, [0] * 32,
+                             [0] * 31)
+
+
+def refusal_of(answer):
+    """The refusal that an answer is, or None."""
+    return answer if isinstance(answer, Refusal) else None
 
 
 def self_lane(price):
@@ -162,7 +174,8 @@ def check_passes(checks):
             # A circle of price 0 gives the source no parent.
             ([(0, 0, 0), (1, 0, -3), (0, 1, 3)], [0, 3, FAR], [-1, 2, -1])):
         finished = network.run(Network(3, 3, 0, lanes))
-        checks.equal(finished[4:], (distances, parents), f"passes of {lanes}")
+        checks.equal((finished.distances, finished.parents),
+                     (distances, parents), f"passes of {lanes}")
     before = network.run(Network(1, 3, 0, [(0, 1, 1), (1, 2, 1), (0, 2, 2)]))
     checks.equal(before.parents, [-1, 0, 1], "the same lanes in method 1")
     checks.equal(network.run(Network(3, 1, 0, [])).answer,
@@ -171,6 +184,44 @@ def check_passes(checks):
         finished = network.run(Network(3, 1, 0, [(0, 0, price)]))
         checks.equal(finished.answer, RequestRan(25, 24, verdict),
                      f"method 3, a lane of {price} to its own yard")
+
+
+# Small requests of method 5
+
+def check_routes(checks):
+    """Runs of method 5: the route to each yard from source 0, in their order.
+
+    A row has the lanes, and for each yard what its route shows.
+    """
+    for lanes, *routes in (
+            # No lanes, and a yard that they do not reach.
+            ([], [], [], []),
+            ([(0, 1, 5)], [], [0], []),
+            # Two lanes, the last one first, whichever number it has.
+            ([(0, 1, 5), (1, 2, 5)], [], [0], [1, 0]),
+            ([(1, 2, -5), (0, 1, -5)], [], [1], [0, 1]),
+            # Fewer lanes than two where they are the cheaper ones.
+            ([(0, 1, 5), (1, 2, 5), (0, 2, 9)], [], [0], [2]),
+            # A tie keeps the lane that came first.
+            ([(0, 1, 5), (0, 1, 5), (0, 2, 10), (1, 2, 5)], [], [0], [2]),
+            # A parent that a later pass replaces.
+            ([(1, 2, 1), (0, 2, 9), (0, 1, 1)], [], [2], [0, 2]),
+            # Circles of price 0, at the source and behind it.
+            ([(0, 0, 0), (0, 1, 3), (1, 0, -3)], [], [1], []),
+            ([(0, 1, 4), (1, 2, -2), (2, 1, 2)], [], [0], [1, 0]),
+            # Rebates from an unreached yard.
+            ([(2, 1, -9), (2, 0, -9), (0, 1, 3)], [], [2], [])):
+        for destination, shown in enumerate(routes):
+            case = Network(5, 3, 0, lanes, destination)
+            checks.equal(network.run(case).route,
+                         shown + [-1] * (2 - len(shown)), f"route of {case}")
+    checks.equal(network.run(Network(5, 1, 0, [], 0)).answer,
+                 RequestRan(2, 10, 0), "method 5, one yard and no lane")
+    for price, verdict in ((-1, 1), (0, 0), (1_000_000, 0)):
+        finished = network.run(Network(5, 1, 0, [(0, 0, price)], 0))
+        checks.equal((finished.answer, finished.route),
+                     (RequestRan(18, 23, verdict), []),
+                     f"method 5, a lane of {price} to its own yard")
 
 
 # Words, lengths and rounds
@@ -193,8 +244,23 @@ def check_fields(checks):
         checks.equal(cells, [number], "constant of SET")
 
 
+def check_intake(checks):
+    """The cells that a small request of each method starts with."""
+    for case, cells in (
+            (Network(1, 2, 0, [(0, 1, -5)]), [0, 1, -5, *[0] * 14]),
+            (Network(2, 2, 0, [(0, 1, 7)]), [FAR, 7, FAR, FAR, *[0] * 16]),
+            (Network(3, 2, 0, [(1, 1, -5)]), [1, 0, 1, -5, *[0] * 24]),
+            (Network(5, 2, 0, [(0, 1, -5)], 1),
+             [0, 1, -5, *[0] * 14, 1, *[0] * 3])):
+        checks.equal(model.intake(network.request_words(case)), cells,
+                     f"starting cells of {case}")
+
+
 def check_counted(checks, header):
-    """Length, rounds and addresses of one plan, from its words."""
+    """Length, rounds and addresses of one plan, from its words.
+
+    The rounds are told by depths and by the heaviest chain.
+    """
     operations = list(model.plan_operations(header))
     total = model.cells_of(header).total
     words = model.plan_words(header)
@@ -202,6 +268,8 @@ def check_counted(checks, header):
                  f"length of {header}")
     checks.equal(model.rounds_of(operations), rounds_by_formula(header),
                  f"rounds of {header}")
+    checks.equal(chains.heaviest_chain(operations), rounds_by_formula(header),
+                 f"heaviest chain of {header}")
     checks.equal(model.foreign_refusal(words, total, 2 * len(words)), None,
                  f"plan of {header} as a foreign plan")
 
@@ -211,13 +279,17 @@ def check_lengths(checks):
     for header, *stated in (
             (Header(1, 32, 128, 0), 1_060_836, 1_060_837, 488, 166_832),
             (Header(2, 32, 0, 0), 44_227, 44_227, model.DESK_CELLS, 9_633),
-            (Header(3, 32, 128, 0), 437_221, 437_222, 8_874, 38_151)):
+            (Header(3, 32, 128, 0), 437_221, 437_222, 8_874, 38_151),
+            (Header(5, 32, 128, 0), 1_072_196, 1_072_197, 552, 166_832)):
         checks.equal([model.plan_length(header), model.log_length(header),
                       model.cells_of(header).total, rounds_by_formula(header)],
                      stated, f"figures of {header}")
-    largest = Header(1, 32, 128, 0)
-    checks.equal(model.rounds_of(model.plan_operations(largest)),
-                 rounds_by_formula(largest), f"rounds of {largest}")
+    for method in (1, 5):
+        largest = Header(method, 32, 128, 0)
+        checks.equal(model.rounds_of(model.plan_operations(largest)),
+                     rounds_by_formula(largest), f"rounds of {largest}")
+        checks.equal(1 + sum(1 for _ in model.plan_operations(largest)),
+                     model.plan_length(largest), f"length of {largest}")
     check_counted(checks, Header(2, 32, 0, 0))
     check_counted(checks, Header(3, 32, 128, 31))
     for n in range(1, 9):
@@ -225,6 +297,35 @@ def check_lengths(checks):
         for m in range(5):
             check_counted(checks, Header(1, n, m, n - 1))
             check_counted(checks, Header(3, n, m, n - 1))
+
+
+def check_lengths_method_5(checks):
+    """The same of method 5, whose words begin with method 1's."""
+    for n in range(1, 13):
+        for m in range(13):
+            header = Header(5, n, m, n // 2)
+            check_counted(checks, header)
+            begun = list(model.plan_operations(header._replace(method=1)))[:-1]
+            plan = model.plan_operations(header)
+            checks.equal(list(islice(plan, len(begun))), begun,
+                         f"the beginning of the plan of {header}")
+
+
+def check_sizes(checks):
+    """The five lengths that a header asks for, or its refusal."""
+    for header, *stated in ((Header(1, 3, 2, 0), 23, 174, 3, 3, 0),
+                            (Header(2, 3, 0, 0), 30, 147, 3, 3, 0),
+                            (Header(3, 3, 2, 0), 45, 154, 3, 3, 0),
+                            (Header(5, 3, 2, 0), 29, 212, 3, 3, 2),
+                            (Header(5, 1, 0, 0), 13, 10, 1, 1, 0),
+                            (Header(5, 32, 32, 0), 264, 270_405, 32, 32, 31)):
+        checks.equal(model.sizes_needed([model.join_header(header)]),
+                     Lent(*stated), f"sizes of {header}")
+    for header, number in ((Header(4, 1, 0, 0), 1), (Header(5, 33, 0, 0), 2),
+                           (Header(5, 1, 129, 0), 3), (Header(5, 1, 0, 1), 4)):
+        checks.equal(model.sizes_needed([model.join_header(header)]),
+                     Refusal(number), f"sizes of {header}")
+    checks.equal(model.sizes_needed([]), Refusal(1), "sizes of no header")
 
 
 def check_depths(checks):
@@ -263,13 +364,21 @@ def check_depths(checks):
 
 
 def check_spelled_plans(checks):
-    """The plans of three small headers, spelled out by hand."""
+    """The plans of small headers, spelled out by hand.
+
+    Of method 5 what comes after method 1's words.
+    """
     for header, plan, places in (
             (Header(1, 2, 1, 0), spelled.PLAN_1, spelled.PLACES_1),
             (Header(2, 2, 0, 1), spelled.PLAN_2, spelled.PLACES_2),
             (Header(3, 2, 2, 1), spelled.PLAN_3, spelled.PLACES_3)):
         checks.equal(list(model.plan_operations(header)),
                      spelled.operations(plan, places), f"plan of {header}")
+    header = Header(5, 3, 2, 1)
+    begun = list(model.plan_operations(header._replace(method=1)))[:-1]
+    checks.equal(list(model.plan_operations(header)),
+                 begun + spelled.operations(spelled.END_5, spelled.PLACES_5),
+                 f"plan of {header}")
 
 
 def check_figures_lanes(checks):
@@ -297,7 +406,7 @@ def climb(checks, headers, inputs, enough, late_refusals):
     `inputs` are lists of input words, the first of a wrong number, each later
     one with one fault fewer; `late_refusals` belong to those later ones.
     """
-    short, none = inputs[0], Lent(0, 0, 0, 0)
+    short, none = inputs[0], Lent(0, 0, 0, 0, 0)
     refused_unchanged(checks, [], none, Refusal(1))
     for number, header in enumerate(headers[:4], start=1):
         refused_unchanged(checks, [model.join_header(header), *short], none,
@@ -305,15 +414,17 @@ def climb(checks, headers, inputs, enough, late_refusals):
     first = model.join_header(headers[4])
     refused_unchanged(checks, [first, *short], none, Refusal(5))
     words = [first, *inputs[1]]
-    lengths = Lent(*(length - 1 for length in enough))
+    lengths = Lent(*(max(0, length - 1) for length in enough))
     refused_unchanged(checks, words, lengths, Refusal(6))
     lengths = lengths._replace(cells=enough.cells)
     refused_unchanged(checks, words, lengths, Refusal(7))
     lengths = lengths._replace(log=enough.log)
     refused_unchanged(checks, words, lengths, Refusal(8))
-    for missing in ("distances", "parents"):
-        one_short = enough._replace(**{missing: getattr(enough, missing) - 1})
-        refused_unchanged(checks, words, one_short, Refusal(8))
+    for missing in ("distances", "parents", "route"):
+        length = getattr(enough, missing)
+        if length > 0:
+            one_short = enough._replace(**{missing: length - 1})
+            refused_unchanged(checks, words, one_short, Refusal(8))
     for faulty, refusal in zip(inputs[1:], late_refusals):
         refused_unchanged(checks, [first, *faulty], enough, refusal)
     checks.holds(isinstance(answer_to([first, *inputs[-1]]), RequestRan),
@@ -325,14 +436,16 @@ def check_methods(checks):
     admitted = [method for method in range(16)
                 if model.header_refusal([model.join_header(
                     Header(method, 1, 0, 0))]) is None]
-    checks.equal(admitted, [1, 2, 3], "methods")
+    checks.equal(admitted, [1, 2, 3, 5], "methods")
 
 
-def climb_lanes(checks, method, enough, unsorted):
+def climb_lanes(checks, method, enough, unsorted, destinations):
     """The refusals of a method with lanes before a run, in their order.
 
     `unsorted` is there if the method refuses a second lane whose to-yard is
     below the first one's: that refusal, and a lane that is right.
+    `destinations` are there if the method has one: a word that it refuses, and
+    one that is right.
     """
     headers = [Header(15, 33, 129, 33), Header(method, 33, 129, 33),
                Header(method, 2, 129, 2), Header(method, 2, 2, 2),
@@ -343,16 +456,44 @@ def climb_lanes(checks, method, enough, unsorted):
               Lane(0, 0, 0, -1_000_000), *unsorted.values()]
     lanes = [[dear], [dear, second[0]], *([right, lane] for lane in second)]
     inputs = [[model.join_lane(lane) for lane in row] for row in lanes]
-    climb(checks, headers, inputs, enough,
-          [Refusal(11, 0), Refusal(10, 1), Refusal(13, 1), Refusal(14, 1),
-           Refusal(11, 1), *unsorted])
+    refusals = [Refusal(11, 0), Refusal(10, 1), Refusal(13, 1), Refusal(14, 1),
+                Refusal(11, 1), *unsorted]
+    if destinations:
+        wrong, right = destinations
+        inputs = [*([*row, wrong] for row in inputs), [*inputs[-1], right]]
+        refusals.append(Refusal(16))
+    climb(checks, headers, inputs, enough, refusals)
 
 
 def check_order_lanes(checks):
-    """The refusals of methods 1 and 3, in their order."""
-    climb_lanes(checks, 1, Lent(20, 85, 2, 2), {})
-    climb_lanes(checks, 3, Lent(36, 86, 2, 2),
-                {Refusal(15, 1): Lane(0, 1, 0, -1_000_000)})
+    """The refusals of methods 1, 3 and 5, in their order."""
+    climb_lanes(checks, 1, Lent(20, 85, 2, 2, 0), {}, ())
+    climb_lanes(checks, 3, Lent(36, 86, 2, 2, 0),
+                {Refusal(15, 1): Lane(0, 1, 0, -1_000_000)}, ())
+    for wrong in (2, 1 << 63, MOST_WORD):
+        climb_lanes(checks, 5, Lent(24, 105, 2, 2, 1), {}, (wrong, 1))
+
+
+def check_destination(checks):
+    """Which destinations 16 refuses, and how many words 5 expects."""
+    for n in (1, 2, 31, 32):
+        right, wrong = range(n), [n, n + 1, 1 << 63, MOST_WORD - n, MOST_WORD]
+        wrong += [high + n - 1 for high in (1 << 8, 1 << 20, 1 << 32, 1 << 63)]
+        header = model.join_header(Header(5, n, 0, n - 1))
+        for word in (*right, *wrong):
+            answer = answer_to([header, word])
+            checks.equal(refusal_of(answer), Refusal(16) if word >= n else None,
+                         f"destination {word} of {n} yards")
+    lane = model.join_lane(Lane(0, 1, 0, 5))
+    for m in range(3):
+        for method, count in ((1, m), (3, m), (5, m + 1)):
+            header = model.join_header(Header(method, 2, m, 0))
+            for words in range(m + 3):
+                answer = answer_to([header, *[lane] * min(words, m),
+                                    *[1] * max(0, words - m)])
+                checks.equal(refusal_of(answer),
+                             None if words == count else Refusal(5),
+                             f"{words} words, {m} lanes, method {method}")
 
 
 def check_sorted(checks):
@@ -367,8 +508,7 @@ def check_sorted(checks):
                            ((to[0], to[0], to[2], to[2]), None)):
         answer = answer_to([model.join_header(Header(3, 3, len(lanes), 0)),
                             *map(model.join_lane, lanes)])
-        checks.equal(answer if isinstance(answer, Refusal) else None, refusal,
-                     f"order of {lanes}")
+        checks.equal(refusal_of(answer), refusal, f"order of {lanes}")
 
 
 def check_order_method_2(checks):
@@ -381,7 +521,7 @@ def check_order_method_2(checks):
               [(0, -1), (0, 5), (0, 1_000_000), (0, -1)]]
     inputs = [[model.join_table_entry(TableEntry(*entry)) for entry in row]
               for row in tables]
-    climb(checks, headers, inputs, Lent(20, 67, 2, 2),
+    climb(checks, headers, inputs, Lent(20, 67, 2, 2, 0),
           [Refusal(11, 0), Refusal(10, 2), Refusal(11, 2)])
 
 
@@ -424,18 +564,55 @@ def check_desk_method_3(checks):
                  "desk, lanes that are not sorted")
 
 
+def check_desk_method_5(checks):
+    """The desk's lines for method 5: the route, 16, and what its log holds."""
+    lanes = "0001000000000007" + "02010000FFFFFFFC" + "0002000000000009"
+    yards = ["5 3 3 0 100 0", "0 0 -", "1 5 1", "2 9 2"]
+    for destination, line in enumerate(("route", "route 1 2", "route 2")):
+        data = bytes.fromhex(f"5000030000300000{lanes}{destination:016X}")
+        checks.equal(model.desk_lines(data), [*yards, line],
+                     f"desk, the route to yard {destination}")
+    apart = bytes.fromhex("5000020000000000" + "0000000000000001")
+    checks.equal(model.desk_lines(apart),
+                 ["5 2 0 0 9 0", "0 0 -", "1 - -", "route"],
+                 "desk, the route to an unreached yard")
+    printed = {
+        "5000030000300000" + lanes: "refused 5",
+        "5000030000300000" + lanes + "00": "refused 5",
+        "5000030000300000" + lanes + "00" * 9: "refused 5",
+        "5000030000300000" + lanes + "0000000000000003": "refused 16",
+        "5000030000300000" + lanes + "FFFFFFFFFFFFFFFF": "refused 16",
+        "5000010000100000" + "00000000000F4241" + "F" * 16: "refused 11 0",
+        "5000010000100000" + "00000000FFFFFFFF" + "F" * 16: "refused 16",
+        "5000010000100000" + "00000000FFFFFFFF" + "0" * 16: "refused 12",
+    }
+    for request, line in printed.items():
+        checks.equal(model.desk_lines(bytes.fromhex(request)), [line],
+                     f"desk, {request}")
+    for n, m, line in ((2, 128, "5 2 128 0 1682 0"),
+                       (3, 93, "5 3 93 0 2530 0"), (3, 94, "refused 7"),
+                       (26, 1, "5 26 1 0 1683 0"), (27, 1, "refused 7"),
+                       (32, 0, "5 32 0 0 1179 0"), (32, 1, "refused 7"),
+                       (32, 128, "refused 7")):
+        data = model.join_header(Header(5, n, m, 0)).to_bytes(8, "big")
+        checks.equal(model.desk_lines(data + bytes(8 * m + 8))[0], line,
+                     f"desk, method 5, {n} yards and {m} lanes")
+
+
 def check_plan_writer(checks):
     """Plan writing and its refusals."""
     refused = ((None, 1), (Header(15, 0, 0, 0), 1), (Header(1, 0, 129, 0), 2),
                (Header(2, 1, 1, 1), 3), (Header(1, 1, 129, 1), 3),
-               (Header(3, 1, 129, 1), 3), (Header(1, 1, 128, 1), 4),
-               (Header(3, 1, 128, 1), 4))
+               (Header(3, 1, 129, 1), 3), (Header(5, 1, 129, 1), 3),
+               (Header(1, 1, 128, 1), 4), (Header(3, 1, 128, 1), 4),
+               (Header(5, 1, 128, 1), 4))
     for header, number in refused:
         words = [] if header is None else [model.join_header(header)]
         checks.equal(model.write_plan(words, []), Refusal(number),
                      "plan writer")
     for header in (Header(1, 1, 0, 0), Header(1, 3, 2, 1), Header(2, 2, 0, 1),
-                   Header(3, 1, 0, 0), Header(3, 3, 2, 1)):
+                   Header(3, 1, 0, 0), Header(3, 3, 2, 1), Header(5, 1, 0, 0),
+                   Header(5, 3, 2, 1)):
         words, length = [model.join_header(header)], model.plan_length(header)
         buffer = [LENT] * (length - 1)
         checks.equal(model.write_plan(words, buffer), Refusal(7),
@@ -594,13 +771,27 @@ def random_sorted_lanes(rng, n, m, kind):
 
 
 def random_ties(rng):
-    """A sorted network of many lanes whose prices nearly cancel on circles."""
+    """Yards, source and many lanes whose prices nearly cancel on circles."""
     n = rng.randint(4, 5)
     heights = [rng.randrange(9) for _ in range(n)]
     ends = [(rng.randrange(n), rng.randrange(n)) for _ in range(4 * n)]
     lanes = [(u, v, heights[v] - heights[u] + (rng.randrange(4) == 0))
              for u, v in ends]
-    return Network(3, n, rng.randrange(n), by_target(lanes))
+    return n, rng.randrange(n), lanes
+
+
+def random_chain(rng):
+    """A network of method 5 whose route passes through every yard.
+
+    The other lanes are too dear for any least walk.
+    """
+    n = rng.randint(3, 6)
+    yards = rng.sample(range(n), n)
+    lanes = [(*ends, rng.randint(-9, 9)) for ends in zip(yards, yards[1:])]
+    lanes += [(u, v, price + 100) for u, v, price
+              in random_lanes(rng, n, rng.randrange(5), 0)]
+    rng.shuffle(lanes)
+    return Network(5, n, yards[0], lanes, yards[-1])
 
 
 def random_table(rng, n, kind):
@@ -617,20 +808,23 @@ def random_network(rng, method, n, m, source):
     if method == 2:
         return Network(method, n, source, random_table(rng, n, kind))
     lanes_of = random_sorted_lanes if method == 3 else random_lanes
-    return Network(method, n, source, lanes_of(rng, n, m, kind))
+    destination = rng.randrange(n) if method == 5 else None
+    return Network(method, n, source, lanes_of(rng, n, m, kind), destination)
+
+
+def several_end_least(lanes, yard, distances):
+    """Whether several lanes are the last step of a least walk to the yard."""
+    return sum(walks.ends_least_walk(yard, lane, distances)
+               for lane in lanes) > 1
 
 
 def shapes_of(case):
-    """What a run of a sorted network could get wrong, and if it is there."""
-    lanes, yards = case.lanes, range(case.yards)
+    """What a run over lanes could get wrong, and if it is there."""
+    lanes = case.lanes
     distances, loss_circle = network.walk_distances(case)
-    leading = [[lane for lane in lanes if lane[1] == v] for v in yards]
-    shapes = {
+    return {
         "one yard": case.yards == 1,
         "no lanes": not lanes,
-        "one segment of several lanes": any(len(segment) == len(lanes) > 1
-                                            for segment in leading),
-        "a yard without lanes to it": any(not segment for segment in leading),
         "parallel lanes": len({lane[:2] for lane in lanes}) < len(lanes),
         "a lane to its own yard": any(u == v for u, v, _ in lanes),
         "a circle of price 0": any((v, u, -price) in lanes
@@ -638,15 +832,46 @@ def shapes_of(case):
         "a loss circle": loss_circle,
         "a rebate from an unreached yard": any(
             distances[u] is None and price < 0 for u, _, price in lanes),
+        "a tie": not loss_circle and any(
+            several_end_least(lanes, v, distances)
+            for v in range(case.yards)),
     }
-    if not loss_circle:
-        shapes["a tie"] = any(
-            sum(walks.ends_least_walk(v, lane, distances)
-                for lane in leading[v]) > 1 for v in yards)
-        shapes["parents other than method 1's"] = (
-            network.run(case).parents
-            != network.run(case._replace(method=1)).parents)
-    return shapes
+
+
+def sorted_shapes(case):
+    """What besides that a run of method 3 could get wrong."""
+    targets = Counter(target for _, target, _ in case.lanes)
+    return {
+        "one segment of several lanes": len(targets) == 1 < len(case.lanes),
+        "a yard without lanes to it": len(targets) < case.yards,
+        "parents other than method 1's": (
+            not network.walk_distances(case)[1]
+            and network.run(case).parents
+            != network.run(case._replace(method=1)).parents),
+    }
+
+
+def route_shapes(case):
+    """What besides that a run of method 5 could get wrong."""
+    distances, loss_circle = network.walk_distances(case)
+    if loss_circle:
+        return {}
+    shown = [case.lanes[number] for number
+             in network.shown_lanes(network.run(case).route)]
+    return {
+        "to the source": case.destination == case.source,
+        "to the source, on a circle of price 0": any(
+            walks.ends_least_walk(case.source, lane, distances)
+            for lane in case.lanes) and case.destination == case.source,
+        "to an unreached yard": distances[case.destination] is None,
+        "over one lane": len(shown) == 1,
+        "over some lanes": 1 < len(shown) < case.yards - 1,
+        "over n-1 lanes": len(shown) == case.yards - 1 > 1,
+        "along a circle of price 0": any((v, u, -price) in case.lanes
+                                         for u, v, price in shown),
+        "along a tie": any(several_end_least(case.lanes, v, distances)
+                           for _, v, _ in shown),
+    }
 
 
 def check_random_run(checks, case):
@@ -665,9 +890,12 @@ def check_random_run(checks, case):
     bank = list(finished.start)
     checks.holds(model.replay(log, bank), f"replay of {case} to the end")
     checks.equal(bank, finished.cells, f"cells left by {case}")
-    for name in ("cells", "log", "distances", "parents"):
+    for name in Lent._fields:
         checks.equal(getattr(finished, name)[-SURPLUS:], [LENT] * SURPLUS,
                      f"{name} beyond the needed part of {case}")
+    if finished.answer.verdict == 1:
+        results = finished.distances + finished.parents + finished.route
+        checks.equal(set(results), {LENT}, f"results of {case}")
     return log, finished.answer.verdict
 
 
@@ -686,11 +914,11 @@ def check_random_pair(checks, rng, method):
 def check_random(checks):
     """Random requests of every method and random foreign plans."""
     rng = random.Random(SEED)
-    verdicts = {1: [], 2: [], 3: []}
+    verdicts = {method: [] for method in model.METHODS}
     for _ in range(RANDOM_PAIRS):
         for method, told in verdicts.items():
             told += check_random_pair(checks, rng, method)
-    for method in (1, 3):
+    for method in (1, 3, 5):
         checks.holds(min(map(verdicts[method].count, (0, 1))) >= 50,
                      f"both verdicts are common in method {method}")
     for _ in range(RANDOM_PLANS):
@@ -699,20 +927,47 @@ def check_random(checks):
         check_depths_random(checks, rng)
 
 
-def check_random_shapes(checks):
-    """Random sorted networks, among which every shape is common."""
-    rng = random.Random(SEED)
-    cases = [random_ties(rng) for _ in range(RANDOM_TIES)]
-    for _ in range(RANDOM_PAIRS):
-        n = rng.randint(1, 6)
-        cases.append(random_network(rng, 3, n, rng.randint(0, 10),
-                                    rng.randrange(n)))
+def check_shapes(checks, cases, own_shapes):
+    """Random networks of one method, among which every shape is common."""
     shapes = Counter()
     for case in cases:
         check_random_run(checks, case)
-        shapes.update(shapes_of(case))
+        shapes.update(shapes_of(case) | own_shapes(case))
     checks.holds(min(shapes.values()) >= LEAST_OF_A_SHAPE,
                  f"every shape is common, {shapes}")
+
+
+def small_networks(rng, method):
+    """Random networks of a method, of up to six yards and ten lanes."""
+    for _ in range(RANDOM_PAIRS):
+        n = rng.randint(1, 6)
+        yield random_network(rng, method, n, rng.randint(0, 10),
+                             rng.randrange(n))
+
+
+def check_sorted_shapes(checks):
+    """Random networks of method 3."""
+    rng = random.Random(SEED)
+    cases = [Network(3, n, source, by_target(lanes)) for n, source, lanes
+             in (random_ties(rng) for _ in range(RANDOM_TIES))]
+    check_shapes(checks, [*cases, *small_networks(rng, 3)], sorted_shapes)
+
+
+def check_route_shapes(checks):
+    """Random networks of method 5, and the same ones in method 1."""
+    rng = random.Random(SEED)
+    cases = [Network(5, *tied, rng.randrange(tied[0])) for tied
+             in (random_ties(rng) for _ in range(RANDOM_TIES))]
+    cases += [random_chain(rng) for _ in range(RANDOM_CHAINS)]
+    cases += small_networks(rng, 5)
+    check_shapes(checks, cases, route_shapes)
+    for case in cases:
+        finished = network.run(case)
+        other = network.run(case._replace(method=1, destination=None))
+        checks.equal(
+            (finished.answer.verdict, finished.distances, finished.parents),
+            (other.answer.verdict, other.distances, other.parents),
+            f"{case} in method 1")
 
 
 def check_random_walks(checks):
@@ -727,17 +982,43 @@ def check_random_walks(checks):
         checks.equal((distances, gains), expected, f"passes of {part}")
 
 
+def check_random_routes(checks):
+    """The routes to all yards of small networks, found among every walk."""
+    rng = random.Random(SEED)
+    for _ in range(RANDOM_WALKS):
+        n, m = rng.randint(1, 4), rng.randint(0, 6)
+        lanes = random_lanes(rng, n, m, rng.randrange(4))
+        source = rng.randrange(n)
+        _, loss_circle = walks.exhaustive(n, lanes, source)
+        for destination in range(n):
+            case = Network(5, n, source, lanes, destination)
+            finished = network.run(case, 0, LENT)
+            checks.equal(finished.answer.verdict, int(loss_circle),
+                         f"verdict of {case}")
+            if loss_circle:
+                continue
+            shown = network.shown_lanes(finished.route)
+            least = walks.least_walks(n, lanes, source, destination)
+            if destination == source or not least:
+                least = {()}
+            checks.holds(shown is not None and tuple(shown[::-1]) in least,
+                         f"{finished.route} is a least walk of {case}")
+
+
 def main():
     """Carry out all checks and print how many there were."""
     checks = Checks()
     for check in (check_edge_plan, check_edge_printed, check_edge_method_1,
                   check_edge_method_2, check_edge_limits, check_edge_cells,
-                  check_passes, check_fields, check_lengths, check_depths,
-                  check_spelled_plans, check_figures_lanes, check_methods,
-                  check_order_lanes, check_sorted, check_order_method_2,
-                  check_desk, check_desk_method_3, check_plan_writer,
+                  check_passes, check_routes, check_fields, check_intake,
+                  check_lengths, check_lengths_method_5, check_sizes,
+                  check_depths, check_spelled_plans, check_figures_lanes,
+                  check_methods, check_order_lanes, check_destination,
+                  check_sorted, check_order_method_2, check_desk,
+                  check_desk_method_3, check_desk_method_5, check_plan_writer,
                   check_foreign_words, check_foreign_order, check_replay_ends,
-                  check_random, check_random_shapes, check_random_walks):
+                  check_random, check_sorted_shapes, check_route_shapes,
+                  check_random_walks, check_random_routes):
         check(checks)
     print(f"model: {checks.count} checks passed")
 

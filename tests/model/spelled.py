@@ -1,4 +1,4 @@
-"""Three small plans spelled out by hand, one operation a line.
+"""Small plans spelled out by hand, one operation a line.
 
 A line is the operation's name, the cell written and the operands, as the rules
 read them: `EQUAL X+5 from+0 Y+1` is EQUAL X+5 (from 0, Y+1).  SET has its
@@ -192,6 +192,52 @@ MOVEIF X+8 X+5 X+5
 LESS X+5 N+1 D+1
 MOVEIF X+8 X+5 X+5
 OPEN X+8
+"""
+
+# Method 5, three yards, two lanes: the cells are 29. What comes after the words
+# of method 1.
+PLACES_5 = {"from": 0, "to": 2, "price": 4, "D": 6, "P": 9, "Y": 12, "X": 15,
+            "Z": 23, "B": 24, "R": 27}
+END_5 = """
+COPY B+0 Y+0
+COPY B+1 Y+1
+COPY B+2 Y+2
+SET X+3 0
+EQUAL X+5 P+0 X+3
+MOVEIF B+0 X+5 from+0
+EQUAL X+5 P+1 X+3
+MOVEIF B+1 X+5 from+0
+EQUAL X+5 P+2 X+3
+MOVEIF B+2 X+5 from+0
+SET X+3 1
+EQUAL X+5 P+0 X+3
+MOVEIF B+0 X+5 from+1
+EQUAL X+5 P+1 X+3
+MOVEIF B+1 X+5 from+1
+EQUAL X+5 P+2 X+3
+MOVEIF B+2 X+5 from+1
+COPY X+1 Z+0
+COPY X+2 X+1
+EQUAL X+5 X+2 Y+0
+MOVEIF R+0 X+5 P+0
+MOVEIF X+1 X+5 B+0
+EQUAL X+5 X+2 Y+1
+MOVEIF R+0 X+5 P+1
+MOVEIF X+1 X+5 B+1
+EQUAL X+5 X+2 Y+2
+MOVEIF R+0 X+5 P+2
+MOVEIF X+1 X+5 B+2
+COPY X+2 X+1
+EQUAL X+5 X+2 Y+0
+MOVEIF R+1 X+5 P+0
+MOVEIF X+1 X+5 B+0
+EQUAL X+5 X+2 Y+1
+MOVEIF R+1 X+5 P+1
+MOVEIF X+1 X+5 B+1
+EQUAL X+5 X+2 Y+2
+MOVEIF R+1 X+5 P+2
+MOVEIF X+1 X+5 B+2
+OPEN X+7
 """
 
 

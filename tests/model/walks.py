@@ -63,11 +63,13 @@ def synchronous(n, lanes, source):
 
 
 def walks_of(lanes, source, most):
-    """The last yard and the total of every walk of at most so many lanes."""
-    found = longest = [(source, 0)]
+    """Every walk of at most so many lanes: last yard, total, lanes' numbers."""
+    found = longest = [(source, 0, ())]
     for _ in range(most):
-        longest = [(target, total + price) for yard, total in longest
-                   for origin, target, price in lanes if origin == yard]
+        longest = [(target, total + price, (*numbers, number))
+                   for yard, total, numbers in longest
+                   for number, (origin, target, price) in enumerate(lanes)
+                   if origin == yard]
         found = found + longest
     return found
 
@@ -76,11 +78,19 @@ def exhaustive(n, lanes, source):
     """What bellman_ford answers, by looking at every walk of up to n lanes."""
     def least(most):
         totals = {}
-        for yard, total in walks_of(lanes, source, most):
+        for yard, total, _ in walks_of(lanes, source, most):
             totals[yard] = min(total, totals.get(yard, total))
         return [totals.get(yard) for yard in range(n)]
 
     return least(n - 1), least(n) != least(n - 1)
+
+
+def least_walks(n, lanes, source, yard):
+    """The lanes' numbers of each least walk to the yard of up to n-1 lanes."""
+    leading = [walk for walk in walks_of(lanes, source, n - 1)
+               if walk[0] == yard]
+    least = min((total for _, total, _ in leading), default=None)
+    return {numbers for _, total, numbers in leading if total == least}
 
 
 def dijkstra(n, lanes, source):
@@ -131,3 +141,32 @@ def parents_hold(source, distances, last_lanes):
     return all(leads_back(yard, source, last_lanes)
                for yard, distance in enumerate(distances)
                if distance is not None)
+
+
+def followed(yard, lanes, numbers, most):
+    """The numbers of last lanes met on the way back from a yard.
+
+    It ends at a yard without a last lane, or after so many lanes: with a loss
+    circle it may never come to one.
+    """
+    met = []
+    while numbers[yard] is not None and len(met) < most:
+        met.append(numbers[yard])
+        yard = lanes[numbers[yard]][0]
+    return met
+
+
+def leads_to(yard, lanes, source, numbers, distance):
+    """Whether these lanes are a walk from the source to the yard, last first.
+
+    Its total is the distance.  To the source and to an unreached yard, whose
+    distance is None, there are none.
+    """
+    if yard == source or distance is None:
+        return not numbers
+    at, total = source, 0
+    for origin, target, price in (lanes[number] for number in numbers[::-1]):
+        if origin != at:
+            return False
+        at, total = target, total + price
+    return (at, total) == (yard, distance)

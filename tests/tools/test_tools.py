@@ -1,7 +1,7 @@
 """Tests tools/request.py and tools/log.py with document 01's own words and figures.
 
 The plans that log.py is shown are written here a second time, from the rules' lines (document 01's, and docs/RULES.md for
-method 3), so that its listing and its rounds are held against figures printed there.
+methods 3 and 5), so that its listing and its rounds are held against figures printed there.
 """
 
 import codecs
@@ -130,6 +130,25 @@ def plan_of_method_3(n, m, source):
     return words + [word(OPEN, 0, X + 8)]
 
 
+def plan_of_method_5(n, m, source):
+    """The plan of method 5, which has the words of method 1's up to its OPEN."""
+    P, Y, X = 3 * m + n, 3 * m + 2 * n, 3 * m + 3 * n
+    Z, B, R = X + 8, X + 9, X + 9 + n
+    words = [word(5, n, m, source)] + plan_of_method_1(n, m, source)[1:-1]
+    words += [word(COPY, B + v, Y + v) for v in range(n)]
+    for i in range(m):
+        words.append(put(X + 3, i))
+        for v in range(n):
+            words += [word(EQUAL, X + 5, P + v, X + 3), word(MOVEIF, B + v, X + 5, i)]
+    words.append(word(COPY, X + 1, Z))
+    for k in range(n - 1):
+        words.append(word(COPY, X + 2, X + 1))
+        for v in range(n):
+            words += [word(EQUAL, X + 5, X + 2, Y + v), word(MOVEIF, R + k, X + 5, P + v)]
+            words.append(word(MOVEIF, X + 1, X + 5, B + v))
+    return words + [word(OPEN, 0, X + 7)]
+
+
 def as_bytes(words):
     """The words as files hold them."""
     return b"".join(value.to_bytes(8, "big") for value in words)
@@ -208,6 +227,25 @@ class RequestWords(unittest.TestCase):
         self.assertEqual(self.words("method 1\nyards 2\nsource 0\n" + lanes), [word(1, 2, 2)] + expected)
         self.assertEqual(self.words("method 3\nyards 2\nsource 0\n" + lanes, True), [word(3, 2, 2)] + expected)
 
+    def test_destination_comes_last(self):
+        expected = [word(5, 3, 2), 0x0001000000000007, 0x01020000FFFFFFFC, 2]
+        lanes = "lane 0 1 7\nlane 1 2 -4\n"
+        self.assertEqual(self.words("method 5\nyards 3\nsource 0\n" + lanes + "destination 2\n"), expected)
+        self.assertEqual(self.words("destination 2\nmethod 5\nyards 3\nsource 0\n" + lanes), expected)
+        self.assertEqual(self.words("method 5\nyards 3\nsource 0\ndestination 2\n" + lanes, True), expected)
+        self.assertEqual(self.words("method 5\nyards 32\nsource 31\ndestination 31\n"), [word(5, 32, 0, 31), 31])
+        self.assertEqual(self.words("method 5\nyards 1\nsource 0\ndestination 0\n"), [word(5, 1), 0])
+
+    def test_unchecked_destinations(self):
+        header = "method 5\nyards 2\nsource 0\n"
+        for destination in (2, 2**63, 2**64 - 1):
+            self.assertEqual(self.words(f"{header}destination {destination}\n", True), [word(5, 2), destination])
+        self.assertEqual(self.words(header + "lane 0 1 5\n", True), [word(5, 2, 1), 0x0001000000000005])
+        two = "destination 1\nlane 0 1 5\ndestination 0\n"
+        self.assertEqual(self.words(header + two, True), [word(5, 2, 1), 0x0001000000000005, 1, 0])
+        in_a_table = "method 2\nyards 1\nsource 0\ndestination 7\nrow 3\n"
+        self.assertEqual(self.words(in_a_table, True), [word(2, 1), 3, 7])
+
     def test_unchecked_makes_refused_requests(self):
         yards_33 = "method 1\nyards 33\nsource 0\n"
         self.assertEqual(self.words(yards_33, True), [word(1, 33)])
@@ -227,7 +265,7 @@ class RequestWords(unittest.TestCase):
 
     def test_round_trip_of_random_networks(self):
         chance = random.Random(1)
-        for method in (1, 3) * 20:
+        for method in (1, 3, 5) * 20:
             n = chance.randint(1, 32)
             edges = [
                 (chance.randrange(n), chance.randrange(n), chance.randint(-1_000_000, 1_000_000))
@@ -237,12 +275,15 @@ class RequestWords(unittest.TestCase):
                 edges.sort(key=lambda edge: edge[1])
             source = chance.randrange(n)
             lanes = "".join("lane {} {} {}\n".format(*edge) for edge in edges)
-            header, *body = self.words(f"method {method}\nyards {n}\nsource {source}\n{lanes}")
+            destinations = [chance.randrange(n)] if method == 5 else []
+            lasts = "".join(f"destination {vertex}\n" for vertex in destinations)
+            header, *body = self.words(f"method {method}\nyards {n}\nsource {source}\n{lasts}{lanes}")
             self.assertEqual(header, word(method, n, len(edges), source))
+            body, after = body[: len(edges)], body[len(edges) :]
             read_back = [
                 (data[0], data[1], int.from_bytes(data[4:], "big", signed=True)) for data in map(as_bytes, zip(body))
             ]
-            self.assertEqual(read_back, edges)
+            self.assertEqual((read_back, after), (edges, destinations))
 
 
 class RequestMessages(WithFolder):
@@ -251,6 +292,7 @@ class RequestMessages(WithFolder):
     HEADER_1 = "method 1\nyards 2\nsource 0\n"
     HEADER_2 = "method 2\nyards 2\nsource 0\n"
     HEADER_3 = "method 3\nyards 3\nsource 0\n"
+    HEADER_5 = "method 5\nyards 3\nsource 0\n"
 
     def complaints(self, text, *options):
         """What request.py says of a bad text, a message a line; it must write nothing and end with status 1."""
@@ -265,7 +307,7 @@ class RequestMessages(WithFolder):
 
     def test_each_complaint(self):
         cases = {
-            self.HEADER_1 + "x 1\n": "line 4: unknown word `x`, expected one of method, yards, source, lane, row",
+            self.HEADER_1 + "x 1\n": "line 4: unknown word `x`, expected one of method, yards, source, destination, lane, row",
             "method 1\nyards\nsource 0\n": "line 2: wrong number of values after `yards` (0), expected `yards NUMBER`",
             self.HEADER_1 + "lane 0 1\n": "line 4: wrong number of values after `lane` (2), "
             "expected `lane FROM-YARD TO-YARD PRICE`",
@@ -275,8 +317,8 @@ class RequestMessages(WithFolder):
             self.HEADER_1 + "method 1\n": "line 4: `method` was given on line 1, expected it once",
             self.HEADER_1 + "yards 2\n": "line 4: `yards` was given on line 2, expected it once",
             self.HEADER_1 + "source 0\n": "line 4: `source` was given on line 3, expected it once",
-            "method one\nyards 1\nsource 0\n": "line 1: method `one` is no whole number, expected 1 to 3",
-            "method 4\nyards 1\nsource 0\n": "line 1: method 4 is out of range, expected 1 to 3",
+            "method one\nyards 1\nsource 0\n": "line 1: method `one` is no whole number, expected 1, 2, 3 or 5",
+            "method 4\nyards 1\nsource 0\n": "line 1: method 4 is out of range, expected 1, 2, 3 or 5",
             "method 1\nyards 0\nsource 0\n": "line 2: yards 0 is out of range, expected 1 to 32",
             "method 1\nyards 33\nsource 0\n": "line 2: yards 33 is out of range, expected 1 to 32",
             "method 1\nyards 2\nsource 2\n": "line 3: source 2 is out of range, expected 0 to 1",
@@ -302,6 +344,24 @@ class RequestMessages(WithFolder):
             self.HEADER_3 + "lane 0 1 1000001\n": "line 4: price 1000001 is out of range, expected -1000000 to 1000000",
             self.HEADER_3 + "lane 0 1 0\n" * 131: "line 132: one lane too many, expected at most 128 lanes",
             self.HEADER_3 + "row 0 0 0\n": "line 4: `row` in method 3, expected `lane FROM-YARD TO-YARD PRICE`",
+            "method 6\nyards 1\nsource 0\n": "line 1: method 6 is out of range, expected 1, 2, 3 or 5",
+            self.HEADER_1 + "destination 1\n": "line 4: `destination` in method 1, expected it in method 5 alone",
+            self.HEADER_2 + "row 0 0\nrow 0 0\ndestination 1\n": "line 6: `destination` in method 2, "
+            "expected it in method 5 alone",
+            self.HEADER_3 + "destination x\n": "line 4: `destination` in method 3, expected it in method 5 alone",
+            self.HEADER_5 + "lane 0 1 0\n": "after line 4: the text has no `destination`, "
+            "expected a line `destination YARD`",
+            self.HEADER_5 + "destination 1\nlane 0 1 0\ndestination 1\n": "line 6: `destination` was given on line 4, "
+            "expected it once",
+            self.HEADER_5 + "destination\n": "line 4: wrong number of values after `destination` (0), "
+            "expected `destination YARD`",
+            self.HEADER_5 + "destination 3\n": "line 4: destination 3 is out of range, expected 0 to 2",
+            self.HEADER_5 + "destination -\n": "line 4: destination `-` is no whole number, expected 0 to 2",
+            self.HEADER_5 + "destination 1\nrow 0 0 0\n": "line 5: `row` in method 5, "
+            "expected `lane FROM-YARD TO-YARD PRICE`",
+            self.HEADER_5 + "destination 1\nlane 0 3 0\n": "line 5: to-yard 3 is out of range, expected 0 to 2",
+            self.HEADER_5 + "destinations 1\n": "line 4: unknown word `destinations`, "
+            "expected one of method, yards, source, destination, lane, row",
             self.HEADER_3 + "lane 0 2 0\n\nlane 0 1 0\nlane 0 1 0\n": "line 6: to-yard 1 is below that of the lane before "
             "it (2, line 4), expected lanes sorted by to-yard",
         }
@@ -320,6 +380,10 @@ class RequestMessages(WithFolder):
             "expected -2147483648 to 2147483647 (32 bits)",
             self.HEADER_1 + "lane 0 0 1.5\n": "line 4: price `1.5` is no whole number, "
             "expected -2147483648 to 2147483647 (32 bits)",
+            self.HEADER_5 + "destination 18446744073709551616\n": "line 4: destination 18446744073709551616 is out of range, "
+            "expected 0 to 18446744073709551615 (64 bits)",
+            self.HEADER_5 + "destination -1\n": "line 4: destination -1 is out of range, "
+            "expected 0 to 18446744073709551615 (64 bits)",
             "yards 1\nsource 0\n": "after line 2: the text has no `method`, expected a line `method NUMBER`",
         }
         for text, message in cases.items():
@@ -332,7 +396,7 @@ class RequestMessages(WithFolder):
             "line 2: price `1.5` is no whole number, expected -1000000 to 1000000",
             "line 4: from-yard 2 is out of range, expected 0 to 1",
             "line 7: source 7 is out of range, expected 0 to 1",
-            "line 8: unknown word `lanes`, expected one of method, yards, source, lane, row",
+            "line 8: unknown word `lanes`, expected one of method, yards, source, destination, lane, row",
             "line 9: wrong number of values after `lane` (1), expected `lane FROM-YARD TO-YARD PRICE`",
         ]
         self.assertEqual(self.complaints(text), expected)
@@ -394,7 +458,7 @@ class RequestMessages(WithFolder):
         self.assertEqual(self.complaints(self.HEADER_2 + "row 0 0\nrow 0 0 0\nrow 0\n"), expected)
 
     def test_no_echo_of_an_unknown_word(self):
-        unknown = "line {}: unknown word `{}`, expected one of method, yards, source, lane, row".format
+        unknown = "line {}: unknown word `{}`, expected one of method, yards, source, destination, lane, row".format
         expected = [unknown(1, "Method"), unknown(2, "yard"), unknown(3, "src")]
         self.assertEqual(self.complaints("Method 1\nyard 2\nsrc 0\nlane 0 1 0\n"), expected)
         self.assertEqual(self.complaints(self.HEADER_2 + "rows 0 0\nrow 0 0\n"), [unknown(4, "rows")])
@@ -402,9 +466,9 @@ class RequestMessages(WithFolder):
         self.assertEqual(self.complaints("yards 2\nsource 0\nfoo\n"), [unknown(3, "foo"), lacks])
 
     def test_no_echo_of_a_bad_header(self):
-        body = "source 5\nrow 0 0 0\nrow 0\nlane 7 8 0\n"
+        body = "source 5\ndestination 6\nrow 0 0 0\nrow 0\nlane 7 8 0\ndestination 7\n"
         expected = [
-            "line 1: method 4 is out of range, expected 1 to 3",
+            "line 1: method 4 is out of range, expected 1, 2, 3 or 5",
             "line 2: yards `x` is no whole number, expected 1 to 32",
         ]
         self.assertEqual(self.complaints("method 4\nyards x\n" + body), expected)
@@ -419,6 +483,8 @@ class RequestMessages(WithFolder):
         self.assertEqual(self.complaints(self.HEADER_2 + "lane 0 1 x\nlane 9 9 9\n"), expected)
         expected = [f"line {number}: `row` in method 1, expected `lane FROM-YARD TO-YARD PRICE`" for number in (4, 5, 6)]
         self.assertEqual(self.complaints(self.HEADER_1 + "row x\nrow 0 0\nrow 0 0\n"), expected)
+        expected = [f"line {number}: `destination` in method 3, expected it in method 5 alone" for number in (4, 5)]
+        self.assertEqual(self.complaints(self.HEADER_3 + "destination 9\ndestination x\n"), expected)
 
     def test_files_that_cannot_be_used(self):
         missing = self.folder / "missing"
@@ -525,6 +591,33 @@ class Listing(WithFolder):
         ]
         self.assertEqual(self.listing(plan_of_method_3(1, 0, 0) + [0]), expected)
 
+    def test_log_of_method_5(self):
+        expected = [
+            "      0  5000020000000001  header method=5 yards=2 lanes=0 source=1",
+            "      1  0000040000000000  SET [4] <- 0",
+            "      2  0000004000000000  SET [0] <- 274877906944",
+            "      3  000002FFFFFFFFFF  SET [2] <- -1",
+            "      4  0000050000000001  SET [5] <- 1",
+            "      5  0000010000000000  SET [1] <- 0",
+            "      6  000003FFFFFFFFFF  SET [3] <- -1",
+            "      7  0000064000000000  SET [6] <- 274877906944",
+            "      8  00000D0000000000  SET [13] <- 0",
+            "      9  10000F0000400000  COPY [15] <- [4]",
+            "     10  1000100000500000  COPY [16] <- [5]",
+            "     11  1000070000E00000  COPY [7] <- [14]",
+            "     12  1000080000700000  COPY [8] <- [7]",
+            "     13  40000B0000800004  EQUAL [11] <- [8] = [4]",
+            "     14  6000110000B00002  MOVEIF [17] <- [2] if [11]",
+            "     15  6000070000B0000F  MOVEIF [7] <- [15] if [11]",
+            "     16  40000B0000800005  EQUAL [11] <- [8] = [5]",
+            "     17  6000110000B00003  MOVEIF [17] <- [3] if [11]",
+            "     18  6000070000B00010  MOVEIF [7] <- [16] if [11]",
+            "     19  7000000000D00000  OPEN [13]",
+            "     20  0000000000000000  published 0",
+            "rounds 9",
+        ]
+        self.assertEqual(self.listing(plan_of_method_5(2, 0, 1) + [0]), expected)
+
     def test_every_operation(self):
         words = [word(op, 1, 2, 3) for op in (SET, ADD, LESS, EQUAL, BOTH, MOVEIF)]
         words += [word(COPY, 1, 2), word(OPEN, 0, 2), 2**64 - 5]
@@ -599,6 +692,11 @@ class Listing(WithFolder):
             (plan_of_method_3(1, 0, 0), 11, 9),  # by the formulas of method 3, as the next two
             (plan_of_method_3(2, 1, 0), 54, 45),
             (plan_of_method_3(3, 3, 2), 209, 121),
+            (plan_of_method_5(1, 0, 0), 9, 2),  # by the formulas of method 5, as the next four
+            (plan_of_method_5(2, 1, 0), 62, 31),
+            (plan_of_method_5(3, 3, 2), 298, 100),
+            (plan_of_method_5(9, 1, 4), 958, 272),
+            (plan_of_method_5(4, 0, 3), 60, 31),
         ]
         for plan, length, rounds in figures:
             lines = self.listing(plan, "--plan")
@@ -663,6 +761,15 @@ class Comparison(WithFolder):
         ]
         self.assertEqual(self.comparison(plan + [1], plan + [0]), (1, expected))
 
+    def test_method_5_differs_in_the_published_word(self):
+        plan = plan_of_method_5(1, 1, 0)
+        expected = [
+            "differ at place 22, in a published word",
+            "A  0000000000000001  published 1",
+            "B  0000000000000000  published 0",
+        ]
+        self.assertEqual(self.comparison(plan + [1], plan + [0]), (1, expected))
+
     def test_length(self):
         expected = ["differ at place 7, only in length", "A  ends after 7 words", "B  0000000000000000  published 0"]
         self.assertEqual(self.comparison(EDGE_1_PLAN, EDGE_1_LOG), (1, expected))
@@ -713,7 +820,7 @@ class LogMessages(WithFolder):
         self.assertEqual(run(log, "compare", path, other, "--bytes"), (0, "equal, 2 words\n", ""))
 
     def test_no_request_looks_like_text(self):
-        for method, n, m in product((1, 2, 3), range(1, 33), range(129)):
+        for method, n, m in product((1, 2, 3, 5), range(1, 33), range(129)):
             self.assertFalse(log.looks_like_text(as_bytes([word(method, n, m, n - 1)])))
 
     def test_one_form_at_most(self):

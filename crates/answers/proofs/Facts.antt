@@ -9,4 +9,5 @@ facts =
       host = (refl, refl, refl);
       sender = refl;
       carrier = (refl, refl, refl, refl, refl);
+      destination = refl;
     }

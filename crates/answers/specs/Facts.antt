@@ -1,10 +1,10 @@
 -- Document 01, "Who caused it", as facts about the refusals: the number of each, and whether it has a place; 10, 13 and 14 as ask 1 of
--- document 02 has them, 15 as ask 3 has it. Rests on the definitions alone.
+-- document 02 has them, 15 as ask 3 and 16 as ask 5 have them. Rests on the definitions alone.
 use mathlib.Core.Path.{_≡_}
 use mathlib.Core.List.{[]}
 use mathlib.Core.Option.{none, some}
 use Prim.Native.Nat.{ℕ}
-use Rattle.answers.specs.Refusal.{Method, Vertices, Edges, Source, Words, Cells, Log, Results, Operation, SpareBits, Weight, FromVertex, ToVertex, Unsorted}
+use Rattle.answers.specs.Refusal.{Method, Vertices, Edges, Source, Words, Cells, Log, Results, Operation, SpareBits, Weight, FromVertex, ToVertex, Unsorted, Destination}
 use Rattle.answers.specs.Told.{Told, refused}
 
 -- A refusal that tells its number alone, and one that tells its place too.
@@ -31,3 +31,5 @@ pub record Facts : Type 0 where
       × (refused (FromVertex 5) ≡ atPlace 13 5)
       × (refused (ToVertex 5) ≡ atPlace 14 5)
       × (refused (Unsorted 5) ≡ atPlace 15 5)
+  -- "16, without place".
+  pub destination : refused Destination ≡ byNumber 16

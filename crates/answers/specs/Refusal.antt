@@ -1,4 +1,4 @@
--- Refusals (document 01, "Who caused it", with asks 1 and 3 of document 02) by name, each with its number and place, and the first of several
+-- Refusals (document 01, "Who caused it", with asks 1, 3 and 5 of document 02) by name, each with its number and place, and the first of several
 -- that is met. Rests on nothing.
 use mathlib.Core.Bool.{Bool, true, false, cond}
 use mathlib.Core.List.{List, [], _∷_}
@@ -60,6 +60,9 @@ ToVertex place = placed 14 place
 
 abbrev pub Unsorted : (place : ℕ) → Refusal
 Unsorted place = placed 15 place
+
+abbrev pub Destination : Refusal
+Destination = plain 16
 
 abbrev pub placeOf : Refusal → Option ℕ
 placeOf r = cond (r .placed) (some (r .place)) none

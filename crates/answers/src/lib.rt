@@ -71,6 +71,12 @@ pub const RESULTS: Refusal = Refusal {
     place: 0,
 };
 
+pub const DESTINATION: Refusal = Refusal {
+    number: 16,
+    placed: false,
+    place: 0,
+};
+
 // The numbers of those with a place.
 pub const OPERATION: u64 = 9;
 

@@ -16,7 +16,7 @@ fn send(name: &[u8], words: &[u64], size: usize)
     }
     io::write_all(STDOUT_FILENO, name);
     io::write_all(STDOUT_FILENO, b"\n");
-    let mut text = [0u8; 2206];
+    let mut text = [0u8; 2894];
     let length = console::desk_text(&bytes[..size], &mut text);
     io::write_all(STDOUT_FILENO, &text[..length]);
 }
@@ -33,6 +33,9 @@ fn refused_headers() {
     send(b"source 2 of 2 yards", &[0x1000020000000002], 8);
     send(b"129 lanes in method 3", &[0x3000010008100000], 8);
     send(b"source 2 of 2 yards in method 3", &[0x3000020000000002], 8);
+    send(b"method 6", &[0x6000010000000000, 0], 16);
+    send(b"129 lanes in method 5", &[0x5000010008100000], 8);
+    send(b"source 2 of 2 yards in method 5", &[0x5000020000000002], 8);
 }
 
 fn refused_counts() {
@@ -233,6 +236,49 @@ fn refused_order() {
     );
 }
 
+fn refused_destinations() {
+    send(
+        b"the destination missing",
+        &[0x5000020000100000, 0x00010000FFFFFFFB],
+        16,
+    );
+    send(
+        b"a word after the destination",
+        &[0x5000020000100000, 0x00010000FFFFFFFB, 1, 0],
+        32,
+    );
+    send(
+        b"destination 2 of 2 yards",
+        &[0x5000020000100000, 0x00010000FFFFFFFB, 2],
+        24,
+    );
+    send(
+        b"a destination of 2^32",
+        &[0x5000020000100000, 0x00010000FFFFFFFB, 0x0000000100000000],
+        24,
+    );
+    send(
+        b"a destination of 2^63",
+        &[0x5000020000100000, 0x00010000FFFFFFFB, 0x8000000000000000],
+        24,
+    );
+    send(
+        b"a destination of 2^64 - 1",
+        &[0x5000020000100000, 0x00010000FFFFFFFB, 0xFFFFFFFFFFFFFFFF],
+        24,
+    );
+    send(
+        b"a destination of 1 yard without lanes",
+        &[0x5000010000000000, 1],
+        16,
+    );
+    send(
+        b"a lane and the destination out of range",
+        &[0x5000020000100000, 0x0002000000000000, 2],
+        24,
+    );
+}
+
 fn runs_of_method_1() {
     send(
         b"the printed request",
@@ -423,6 +469,107 @@ fn runs_of_method_3() {
     send(b"2 yards and 128 lanes in method 3", &lanes, 1032);
 }
 
+fn runs_of_method_5() {
+    send(b"1 yard, no lanes, method 5", &[0x5000010000000000, 0], 16);
+    send(
+        b"document 01's printed lane, to 1",
+        &[0x5000020000100000, 0x00010000FFFFFFFB, 1],
+        24,
+    );
+    send(
+        b"the source as destination",
+        &[0x5000020000100000, 0x00010000FFFFFFFB, 0],
+        24,
+    );
+    send(
+        b"an unreached destination",
+        &[0x5000030000100000, 0x00010000FFFFFFFB, 2],
+        24,
+    );
+    send(
+        b"two lanes 0 to 1 at 4, method 5",
+        &[
+            0x5000020000200000,
+            0x0001000000000004,
+            0x0001000000000004,
+            1,
+        ],
+        32,
+    );
+    send(
+        b"over every yard, the lanes backward",
+        &[
+            0x5000040000300000,
+            0x0203000000000001,
+            0x01020000FFFFFFFE,
+            0x0001000000000003,
+            3,
+        ],
+        40,
+    );
+    send(
+        b"over one lane of three",
+        &[
+            0x5000040000300000,
+            0x0203000000000001,
+            0x01020000FFFFFFFE,
+            0x0001000000000003,
+            1,
+        ],
+        40,
+    );
+    send(
+        b"a circle of price 0 before the destination",
+        &[
+            0x5000030000300000,
+            0x0001000000000002,
+            0x01000000FFFFFFFE,
+            0x0102000000000005,
+            2,
+        ],
+        40,
+    );
+    send(
+        b"a loss circle that the source does not reach, method 5",
+        &[
+            0x5000030000200000,
+            0x01020000FFFFFFFF,
+            0x02010000FFFFFFFF,
+            2,
+        ],
+        32,
+    );
+    send(
+        b"a loss circle that the source reaches, method 5",
+        &[
+            0x5000030000300000,
+            0x00010000000F4240,
+            0x01020000FFFFFFFF,
+            0x02010000FFFFFFFF,
+            2,
+        ],
+        40,
+    );
+    let mut lanes = [0u64; 130];
+    lanes[0] = 0x5000020008000000;
+    lanes[128] = 0x0001000000000002;
+    lanes[129] = 1;
+    send(b"2 yards and 128 lanes in method 5", &lanes, 1040);
+    lanes[0] = 0x5000040003600001;
+    lanes[53] = 0x0203000000000001;
+    lanes[54] = 0x0102000000000004;
+    lanes[55] = 3;
+    send(
+        b"4 yards and 54 lanes in method 5, the largest log",
+        &lanes,
+        448,
+    );
+    lanes[0] = 0x5000040003700001;
+    lanes[55] = 0x0000000000000000;
+    lanes[56] = 3;
+    send(b"4 yards and 55 lanes in method 5", &lanes, 456);
+}
+
 fn main() {
     refused_headers();
     refused_counts();
@@ -430,7 +577,9 @@ fn main() {
     refused_prices();
     refused_entries();
     refused_order();
+    refused_destinations();
     runs_of_method_1();
     runs_of_method_2();
     runs_of_method_3();
+    runs_of_method_5();
 }

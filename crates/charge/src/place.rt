@@ -77,7 +77,7 @@ fn deepen_all(words: &[u64], cells: &mut [i64], log: &mut [u64]) -> u64
     let mut rounds: u64 = 0;
     let mut k: usize = 0;
     while k < words.len() {
-        rounds = crate::word::greater(rounds, deepen(words, cells, log, k));
+        rounds = machine::greater(rounds, deepen(words, cells, log, k));
         k += 1;
     }
     rounds

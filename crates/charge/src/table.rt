@@ -59,7 +59,7 @@ fn deepen_all(words: &[u64], table: &mut [u32]) -> u64
     let mut rounds: u64 = 0;
     let mut k: usize = 0;
     while k < words.len() {
-        rounds = crate::word::greater(rounds, deepen(table, words[k]));
+        rounds = machine::greater(rounds, deepen(table, words[k]));
         k += 1;
     }
     rounds

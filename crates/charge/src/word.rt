@@ -1,16 +1,10 @@
 // A word's depth from those of its cells, wherever these are kept.
 // Rests on machine.
 ghost use mathlib.Core.Path.{_≡_};
-ghost use Prim.Native.Nat.{_^_, _<_, _≤_, max};
+ghost use Prim.Native.Nat.{_^_, _<_, _≤_};
 ghost use lib.ListN.{getD};
 ghost use Rattle.machine.specs.Depth.{rounds};
 ghost use Rattle.charge.specs.Word.{readOf, depthFrom};
-
-pub fn greater(x: u64, y: u64) -> u64
-    ensures { λ r. ⌜ r ≡ max x y ⌝ }
-{
-    if x < y { y } else { x }
-}
 
 // The greatest of those that an op reads, where [a] is at x, [b] at y and [d] at z.
 fn read_depth(op: u64, x: u64, y: u64, z: u64) -> u64
@@ -19,9 +13,9 @@ fn read_depth(op: u64, x: u64, y: u64, z: u64) -> u64
 {
     match op {
         1 => x,
-        6 => greater(greater(x, y), z),
+        6 => machine::greater(machine::greater(x, y), z),
         7 => x,
-        _ => greater(x, y),
+        _ => machine::greater(x, y),
     }
 }
 

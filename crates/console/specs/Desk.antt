@@ -18,7 +18,7 @@ deskLent =
     record {
       cells = replicate 1190 (pos 0);
       log = replicate 8192 0;
-      results = byKind (replicate 32 (pos 0)) (replicate 32 (pos 0));
+      results = byKind (replicate 32 (pos 0)) (replicate 32 (pos 0)) (replicate 31 (pos 0));
     }
 
 unfoldable pub deskText : (bytes : List ℕ) → List ℕ

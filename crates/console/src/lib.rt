@@ -77,13 +77,14 @@ fn run_bytes(
     log: &mut [u64],
     distances: &mut [i64],
     parents: &mut [i64],
+    route: &mut [i64],
 ) -> Served
-    ensures { λ r. ⌜ (r .header ≡ headerIn (requestOf (now (bytes .entry)))) × Met (outcome (requestOf (now (bytes .entry))) (record { cells = now (cells .entry); log = now (log .entry); results = byKind (now (distances .entry)) (now (parents .entry)) })) (r .answer) (now (cells .exit)) (now (log .exit)) (byKind (now (distances .exit)) (now (parents .exit))) ⌝ }
+    ensures { λ r. ⌜ (r .header ≡ headerIn (requestOf (now (bytes .entry)))) × Met (outcome (requestOf (now (bytes .entry))) (record { cells = now (cells .entry); log = now (log .entry); results = byKind (now (distances .entry)) (now (parents .entry)) (now (route .entry)) })) (r .answer) (now (cells .exit)) (now (log .exit)) (byKind (now (distances .exit)) (now (parents .exit)) (now (route .exit))) ⌝ }
 {
     let mut words = [0u64; 1026];
     to_words(bytes, &mut words);
     let count = handed_over(bytes.len());
-    let answer = engine::run(&words[..count], cells, log, distances, parents);
+    let answer = engine::run(&words[..count], cells, log, distances, parents, route);
     let header = planner::read_header(words[0]);
     Served { header, answer }
 }
@@ -91,17 +92,25 @@ fn run_bytes(
 // ---- the texts
 
 // What the desk's program prints for the bytes that it read, from the start of `text`; the text's length is returned.
-pub fn desk_text(bytes: &[u8], text: &mut [u8; 2206]) -> usize
+pub fn desk_text(bytes: &[u8], text: &mut [u8; 2894]) -> usize
     ensures { λ n. ⌜ Printed (deskText (now (bytes .entry))) (now (text .entry)) (now (text .exit)) n ⌝ }
 {
     let mut cells = [0i64; 1190];
     let mut log = [0u64; 8192];
     let mut distances = [0i64; 32];
     let mut parents = [0i64; 32];
-    let served = run_bytes(bytes, &mut cells, &mut log, &mut distances, &mut parents);
+    let mut route = [0i64; 31];
+    let served = run_bytes(
+        bytes,
+        &mut cells,
+        &mut log,
+        &mut distances,
+        &mut parents,
+        &mut route,
+    );
     let header = served.header;
     let answer = served.answer;
-    lines::put_answer(text, header, answer, &distances, &parents)
+    lines::put_answer(text, header, answer, &distances, &parents, &route)
 }
 
 // What `host_log` prints for the bytes that it read: the log that the host has of the run.
@@ -112,7 +121,15 @@ pub fn host_text(bytes: &[u8], text: &mut [u8; 139264]) -> usize
     let mut log = [0u64; 8192];
     let mut distances = [0i64; 32];
     let mut parents = [0i64; 32];
-    let served = run_bytes(bytes, &mut cells, &mut log, &mut distances, &mut parents);
+    let mut route = [0i64; 31];
+    let served = run_bytes(
+        bytes,
+        &mut cells,
+        &mut log,
+        &mut distances,
+        &mut parents,
+        &mut route,
+    );
     let answer = served.answer;
     lines::put_log(text, answer, &log)
 }

@@ -1,6 +1,6 @@
 -- Instructions carried out on depths, a function from addresses, with the greatest depth so far; and none deeper than `most`.
 -- For any addresses with a test `same` of two of them. Rests on methods' Steps and on the machine's depths.
-use mathlib.Core.Path.{_≡_, sym, subst}
+use mathlib.Core.Path.{_≡_, refl, sym, subst}
 use mathlib.Core.Bool.{Bool}
 use mathlib.Core.List.{List, [], _∷_}
 use Prim.Native.Nat.{ℕ, _≤_, max}
@@ -16,6 +16,11 @@ Depths A = (A → ℕ) × ℕ
 -- An instruction's depth x, as `depths` needs it, and what follows.
 pub named : {P R : ℕ → Type 0} (x : ℕ) → P x → R x → (x : ℕ) × P x × R x
 named x p r = (x, p, r)
+
+-- An instruction's depth of which just a bound is known.
+pub within : {R : ℕ → Type 0} {most x : ℕ} (bound : ℕ) → x ≤ bound → bound ≤ most → ((y : ℕ) → y ≤ bound → R y)
+    → (y : ℕ) × ((x ≡ y) × (y ≤ most)) × R y
+within {x = x} bound l k f = (x, (refl, omega arith), f x l)
 
 -- Nothing has been written.
 abbrev pub fresh : {A : Type 0} → Depths A

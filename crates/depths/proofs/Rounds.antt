@@ -3,7 +3,7 @@
 use mathlib.Core.Path.{_≡_, ap, _∙_}
 use mathlib.Core.Bool.{cond}
 use mathlib.Core.List.{List}
-use Prim.Native.Nat.{ℕ, _+_, _-_, _*_, _<_}
+use Prim.Native.Nat.{ℕ, _+_, _-_, _*_, _<_, max}
 use lib.Dec.{eqb}
 use lib.IntN.{ℤ}
 use lib.ListN.{drop}
@@ -17,6 +17,7 @@ use Rattle.plans.specs.Regions.{address}
 use Rattle.plans.specs.Method1 as Plan1
 use Rattle.plans.specs.Method2 as Plan2
 use Rattle.plans.specs.Method3 as Plan3
+use Rattle.plans.specs.Method5 as Plan5
 use Rattle.plans.specs.Plan.{Accepted, instructionsOf, planOf, roundsOfPlan}
 use Rattle.plans.proofs.Headers.{by-method}
 use Rattle.plans.proofs.Addresses.{fits-plan}
@@ -24,10 +25,12 @@ use Rattle.methods.proofs.Names.{same, pair}
 use Rattle.methods.proofs.Method1 as Method1
 use Rattle.methods.proofs.Method2 as Method2
 use Rattle.methods.proofs.Method3 as Method3
+use Rattle.methods.proofs.Method5 as Method5
 use Rattle.depths.proofs.Places.{at-places}
 use Rattle.depths.proofs.Method1.{greatest1}
 use Rattle.depths.proofs.Method2.{greatest2}
 use Rattle.depths.proofs.Method3.{greatest3}
+use Rattle.depths.proofs.Method5.{greatest5}
 
 -- ---- each method's plan, at its places
 
@@ -45,6 +48,11 @@ module _ (far : ℤ) (n m source : ℕ) (some : 0 < n) where
   unfolding Plan3.plan
   depth3 = at-places same (Method3.layout n m) pair far n m source Plan3.outline (Method3.kept far n m) ∙ greatest3 far n m source some
 
+  depth5 : greatest eqb (Plan5.plan (address (Plan5.starts n m)) far n m source)
+      ≡ cond (eqb m 0) (max 2 (n * n + 5 * n - 5)) (m * ((n - 1) * (n + 9)) + max (m * n + n + 16) (m + n * n + 5 * n + 1))
+  unfolding Plan5.plan
+  depth5 = at-places same (Method5.layout n m) pair far n m source Plan5.outline (Method5.kept far n m) ∙ greatest5 far n m source some
+
 -- ---- every header's
 
 deep : (h : Header) → Accepted h → greatest eqb (instructionsOf h) ≡ roundsOfPlan h
@@ -54,6 +62,7 @@ deep =
     (λ n m source a. depth1 far n m source (a .vertices-some))
     (λ n source a. depth2 far n 0 source (a .vertices-some))
     (λ n m source a. depth3 far n m source (a .vertices-some))
+    (λ n m source a. depth5 far n m source (a .vertices-some))
 
 pub rounds-plan : (h : Header) → Accepted h → depthOf (drop 1 (planOf h)) ≡ roundsOfPlan h
 unfolding planOf depthOf

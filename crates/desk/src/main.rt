@@ -8,7 +8,7 @@ fn main() {
     // (console's `cut`).
     let mut bytes = [0u8; 8208];
     let size = io::read_full(STDIN_FILENO, &mut bytes);
-    let mut text = [0u8; 2206];
+    let mut text = [0u8; 2894];
     let length = console::desk_text(&bytes[..size], &mut text);
     io::write_all(STDOUT_FILENO, &text[..length]);
 }

@@ -4,21 +4,22 @@ use mathlib.Core.Path.{_≡_, refl, ap}
 use mathlib.Core.Logic.{_↔_, Iff·trans, Iff·not, _≢_}
 use mathlib.Core.Bool.{cond}
 use mathlib.Core.List.{List, [], _∷_}
+use mathlib.Core.Option.{some}
 use Prim.Native.Nat.{ℕ, zero, suc, _+_, _*_, _<_, _≤_}
 use native.Mathlib.Omega.{arith}
 use lib.IntN.{ℤ, pos, negsuc, natAbs}
 use lib.ListN.{length, getD, drop}
 use Rattle.fields.specs.Fields.{bitsOf}
-use Rattle.machine.specs.Instruction.{Instruction}
 use Rattle.machine.specs.Effect.{isZero, cellAt}
 use Rattle.machine.specs.Log.{cellsAfter}
 use Rattle.plans.specs.declared.Header.{Header}
 use Rattle.plans.specs.Limits.{far, mostWeight}
 use Rattle.plans.specs.Regions.{cell}
 use Rattle.plans.specs.Method2 as Plan2
-use Rattle.plans.specs.Plan.{Accepted, cellsOf, instructionsOf, planOf, Kind, distances, parents, resultsOf, verdictCell, published}
+use Rattle.plans.specs.Plan.{Accepted, cellsOf, instructionsOf, planOf, Kind, distances, parents, route, resultsOf, verdictCell, published}
 use Rattle.plans.proofs.Headers.{header, by-method}
-use Rattle.graph.specs.Walk.{Edge, Network, Below}
+use Rattle.requests.specs.Word.{destinationIn}
+use Rattle.graph.specs.Walk.{Edge, Network, NegativeCycle, Below}
 use Rattle.graph.specs.Shortest.{Naming, Distances, Parents, Shortest}
 use Rattle.graph.specs.BellmanFord.{network, numbered}
 use Rattle.graph.specs.Jacobi.{Sorted}
@@ -27,15 +28,17 @@ use Rattle.graph.proofs.Int.{arithℤ}
 use Rattle.graph.proofs.Parents.{parents-carried}
 use Rattle.graph.proofs.Dijkstra.{no-negative-cycle}
 use Rattle.graph.proofs.Synchronous.{synchronous-carried}
+use Rattle.graph.proofs.Route.{route-carried}
 use Rattle.graph.proofs.SameEdges.{cycle-over, shortest-over}
 use Rattle.methods.specs.Bank.{Exact}
 use Rattle.methods.specs.Edges as Edges
 use Rattle.methods.specs.Method1 as Method1
 use Rattle.methods.specs.Method2 as Method2
 use Rattle.methods.specs.Method3 as Method3
+use Rattle.methods.specs.Method5 as Method5
 use Rattle.methods.proofs.Rooms.{today}
 use Rattle.methods.proofs.OverEdges.{ends-below}
-use Rattle.methods.proofs.Headers.{header1, header2, header3}
+use Rattle.methods.proofs.Headers.{header1, header2, header3, header5}
 use Rattle.engine.specs.Run.{openedAt, verdictOf}
 use Rattle.engine.specs.Network.{edgeOf, Entered, networkOf, namingOf, sourcesOf, CycleFrom}
 use Rattle.engine.specs.Besides.{besidesOf}
@@ -50,6 +53,10 @@ pub record Given (h : Header) (ws : List ℕ) (start : List ℤ) : Type 0 where
   pub three : h .method ≡ 3
       → Edges.Laid (Method3.places (h .vertices) (h .edges)) mostWeight (edgeOf ws) (h .vertices) (h .edges) (h .source) start
   pub sorted : h .method ≡ 3 → Sorted (edgeOf ws) (h .edges)
+  pub five : h .method ≡ 5
+      → Edges.Laid (Method5.places (h .vertices) (h .edges)) mostWeight (edgeOf ws) (h .vertices) (h .edges) (h .source) start
+  pub aimed : h .method ≡ 5 → cellAt start (Method5.goal (h .vertices) (h .edges)) ≡ pos (destinationIn h ws)
+  pub there : h .method ≡ 5 → destinationIn h ws < h .vertices
   pub same : h .method ≡ 2 → (e : Edge) → tableNetwork (natAbs far) (h .vertices) (tableOf (h .vertices) ws) e ↔ Entered (h .vertices) ws e
 
 pub record Left (h : Header) (ws : List ℕ) (start left : List ℤ) : Type 0 where
@@ -134,30 +141,62 @@ besides-carried =
     (λ n m source a ws given given′ same f. tt)
     (λ n source a ws given given′ same f. tt)
     (λ n m source a ws given given′ same f. synchronous-carried (edgeOf ws) m far n source _ _ _ _ (same distances) (same parents) f)
+    (λ n m source a ws given given′ same f.
+    route-carried (edgeOf ws) m n source far _ _ _ _ (getD ws m 0) _ _ (same distances) (same parents) (same route) f)
 
 -- ---- a method over edges
 
--- The verdict as it is read, and where there is no cycle the walks, with results from these cells on.
-record OfEdges (n m source : ℕ) (ws : List ℕ) (left : List ℤ) (verdict : ℕ) (from : Kind → ℕ) : Type 0 where
-  cycle : Flag (cellAt left verdict) (CycleFrom (network (edgeOf ws) m) (source ∷ []))
-  below : Below (network (edgeOf ws) m) n
-  walks : truth (cellAt left verdict) ≡ 0 → OneRow (network (edgeOf ws) m) (numbered (edgeOf ws) m) n source left from
+-- A header's rows are those of a method over edges that has its cells at these places.
+record OverEdges (h : Header) (ws : List ℕ) (at : Edges.Places) : Type 1 where
+  net : networkOf h ws ≡ network (edgeOf ws) (h .edges)
+  names : namingOf h ws ≡ numbered (edgeOf ws) (h .edges)
+  sources : sourcesOf h ≡ h .source ∷ []
+  verdict : verdictCell h ≡ some (at .verdict)
+  count : cellsOf h ≡ at .count
+  rows : (resultsOf h distances .count ≡ h .vertices) × (resultsOf h parents .count ≡ h .vertices)
+  dist : (v : ℕ) → resultsOf h distances .first + v ≡ at .dist v
+  parent : (v : ℕ) → resultsOf h parents .first + v ≡ at .parent v
 
-of-edges : (at : Edges.Places) {plan : List (Instruction ℕ)} {n m source : ℕ} {ws : List ℕ} {start left : List ℤ} (from : Kind → ℕ)
-    → ((v : ℕ) → from distances + v ≡ at .dist v) → ((v : ℕ) → from parents + v ≡ at .parent v)
-    → Edges.Laid at mostWeight (edgeOf ws) n m source start → Edges.Solved at (natAbs far) plan (edgeOf ws) n m source start left
-    → OfEdges n m source ws left (at .verdict) from
-of-edges at {n = n} {m = m} {source = source} {ws = ws} {left = left} from d p laid o =
-    let net = network (edgeOf ws) m in
-    let below = ends-below (edgeOf ws) n m (laid .limited) in
-    let f = flag _ (Iff·trans (o .cycle) (only-source net source)) (Iff·trans (o .none) (Iff·not (only-source net source))) in
-    record {
-      cycle = f;
-      below = below;
-      walks = λ e.
-          one-row net (numbered (edgeOf ws) m) n source left from below (laid .source-below) (at .dist) (at .parent) d p
-          (o .shortest (Iff·not (only-source net source) .1 (f .unset .0 e)));
-    }
+module _ (h : Header) (ws : List ℕ) (at : Edges.Places) (is : OverEdges h ws at) {start left : List ℤ}
+    (laid : Edges.Laid at mostWeight (edgeOf ws) (h .vertices) (h .edges) (h .source) start)
+    (o : Edges.Solved at (natAbs far) (instructionsOf h) (edgeOf ws) (h .vertices) (h .edges) (h .source) start left) where
+  abbrev net : Network
+  net = network (edgeOf ws) (h .edges)
+
+  abbrev from : Kind → ℕ
+  from k = resultsOf h k .first
+
+  below : Below net (h .vertices)
+  below = ends-below (edgeOf ws) (h .vertices) (h .edges) (laid .limited)
+
+  found : Flag (cellAt left (at .verdict)) (CycleFrom net (h .source ∷ []))
+  found = flag _ (Iff·trans (o .cycle) (only-source net (h .source))) (Iff·trans (o .none) (Iff·not (only-source net (h .source))))
+
+  none : truth (cellAt left (at .verdict)) ≡ 0 → ¬ NegativeCycle net (h .source)
+  none e = Iff·not (only-source net (h .source)) .1 (found .unset .0 e)
+
+  walks : truth (cellAt left (at .verdict)) ≡ 0 → OneRow net (numbered (edgeOf ws) (h .edges)) (h .vertices) (h .source) left from
+  walks e =
+      one-row net (numbered (edgeOf ws) (h .edges)) (h .vertices) (h .source) left from below (laid .source-below) (at .dist) (at .parent)
+      (is .dist) (is .parent) (o .shortest (none e))
+
+  -- With what the method fixes besides.
+  over-edges : (¬ NegativeCycle net (h .source) → besidesOf h ws (λ k i. cellAt left (from k + i))) → Left h ws start left
+  unfolding verdictOf
+  over-edges besides =
+      record {
+        cycle = rw (is .verdict, is .net, is .sources) (found .set);
+        no-cycle = rw (is .verdict, is .net, is .sources) (found .unset);
+        below = rw (is .net) below;
+        rows = rw (is .sources) (omega (arith, is .rows));
+        parents-row = λ ne. omega (arith, is .rows);
+        least-totals = rw (is .verdict, is .net, is .sources) (λ z. walks z .row);
+        parent-marks = rw (is .verdict, is .net, is .names) (λ z ne. walks z .marks);
+        besides = rw (is .verdict) (λ z. besides (none z));
+        rest = rw (is .count) (o .rest);
+        exact = o .exact;
+        opened = rw (is .verdict) (ap (λ w. w ∷ []) (found .word));
+      }
 
 -- ---- each method
 
@@ -170,20 +209,9 @@ left =
     (λ n m source a ws start g.
     let h = header 1 n m source in
     let o = header1 h a start mostWeight today (edgeOf ws) refl (g .one refl) in
-    let e = of-edges (Method1.places n m) {ws = ws} (λ k. resultsOf h k .first) (λ v. omega arith) (λ v. omega arith) (g .one refl) o in
-    record {
-      cycle = e .cycle .set;
-      no-cycle = e .cycle .unset;
-      below = e .below;
-      rows = omega arith;
-      parents-row = λ ne. omega arith;
-      least-totals = λ z. e .walks z .row;
-      parent-marks = λ z ne. e .walks z .marks;
-      besides = λ z. tt;
-      rest = o .rest;
-      exact = o .exact;
-      opened = ap (λ w. w ∷ []) (e .cycle .word);
-    })
+    over-edges h ws (Method1.places n m)
+    (search (refl, arith))
+    (g .one refl) o (λ none. tt))
     (λ n source a ws start g.
     let net = Entered n ws in
     let cells = cell (Plan2.starts n) in
@@ -215,20 +243,23 @@ left =
     let at = Method3.places n m in
     let end = cellsAfter (drop 1 (planOf h)) start in
     let (o, passes) = header3 h a start mostWeight today (edgeOf ws) refl (g .sorted refl) (g .three refl) in
-    let e = of-edges at {ws = ws} (λ k. resultsOf h k .first) (λ v. omega arith) (λ v. omega arith) (g .three refl) o in
-    record {
-      cycle = e .cycle .set;
-      no-cycle = e .cycle .unset;
-      below = e .below;
-      rows = omega arith;
-      parents-row = λ ne. omega arith;
-      least-totals = λ z. e .walks z .row;
-      parent-marks = λ z ne. e .walks z .marks;
-      besides = λ z.
-          synchronous-carried (edgeOf ws) m far n source _ _ _ _
-          (λ v l. let p : resultsOf h distances .first + v ≡ at .dist v = omega arith in ap (cellAt end) p)
-          (λ v l. let p : resultsOf h parents .first + v ≡ at .parent v = omega arith in ap (cellAt end) p) passes;
-      rest = o .rest;
-      exact = o .exact;
-      opened = ap (λ w. w ∷ []) (e .cycle .word);
-    })
+    over-edges h ws at
+    (search (refl, arith))
+    (g .three refl) o
+    (λ none.
+    synchronous-carried (edgeOf ws) m far n source _ _ _ _
+    (λ v l. let p : resultsOf h distances .first + v ≡ at .dist v = omega arith in ap (cellAt end) p)
+    (λ v l. let p : resultsOf h parents .first + v ≡ at .parent v = omega arith in ap (cellAt end) p) passes))
+    (λ n m source a ws start g.
+    let h = header 5 n m source in
+    let at = Method5.places n m in
+    let end = cellsAfter (drop 1 (planOf h)) start in
+    let (o, routed) = header5 h a start mostWeight today (edgeOf ws) (destinationIn h ws) refl (g .five refl) (g .aimed refl) (g .there refl) in
+    over-edges h ws at
+    (search (refl, arith))
+    (g .five refl) o
+    (λ none.
+    route-carried (edgeOf ws) m n source far _ _ _ _ (destinationIn h ws) _ _
+    (λ v l. let p : resultsOf h distances .first + v ≡ at .dist v = omega arith in ap (cellAt end) p)
+    (λ v l. let p : resultsOf h parents .first + v ≡ at .parent v = omega arith in ap (cellAt end) p)
+    (λ k l. let p : resultsOf h route .first + k ≡ Method5.step n m k = omega arith in ap (cellAt end) p) (routed none)))

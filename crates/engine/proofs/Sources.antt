@@ -44,3 +44,4 @@ single =
     (λ n m source a. (refl, λ (e : n ≡ 0). omega (arith, a .vertices-some)))
     (λ n source a. (refl, λ (e : n ≡ 0). omega (arith, a .vertices-some)))
     (λ n m source a. (refl, λ (e : n ≡ 0). omega (arith, a .vertices-some)))
+    (λ n m source a. (refl, λ (e : n ≡ 0). omega (arith, a .vertices-some)))

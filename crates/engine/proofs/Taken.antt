@@ -4,22 +4,25 @@ use mathlib.Core.Path.{_≡_, refl, _∙_}
 use mathlib.Core.Logic.{_⊎_, inl, inr}
 use mathlib.Core.List.{List}
 use Prim.Native.Nat.{ℕ, _+_, _*_, _<_, _≤_}
+use native.Mathlib.Nat.{add-zero}
 use native.Mathlib.Omega.{arith}
 use lib.Arith.{digits-lt}
-use lib.IntN.{natAbs}
+use lib.IntN.{pos, natAbs}
 use lib.ListN.{length, getD}
+use Rattle.machine.specs.Effect.{cellAt}
 use Rattle.plans.specs.declared.Header.{Header}
 use Rattle.plans.specs.Limits.{far, mostWeight}
 use Rattle.plans.specs.Plan.{cellsOf}
-use Rattle.requests.specs.Word.{weightOf}
+use Rattle.requests.specs.Word.{destinationIn, weightOf}
 use Rattle.requests.specs.WithinLimits.{headerIn, wordsIn, WithinLimits}
-use Rattle.requests.proofs.Sizes.{cells-one, cells-two, cells-three}
-use Rattle.requests.proofs.WithinLimits.{accepted-in, cells-in, edge-in, sorted-in, entry-in}
-use Rattle.intake.proofs.Laid.{EdgesLaid, edges-one, edges-three, entry-laid}
+use Rattle.requests.proofs.Sizes.{cells-one, cells-two, cells-three, cells-five}
+use Rattle.requests.proofs.WithinLimits.{accepted-in, cells-in, edge-in, sorted-in, entry-in, destination-in}
+use Rattle.intake.proofs.Laid.{EdgesLaid, edges-one, edges-three, edges-five, entry-laid, destination-laid}
 use Rattle.methods.specs.Edges as Edges
 use Rattle.methods.specs.Method1 as Method1
 use Rattle.methods.specs.Method2 as Method2
 use Rattle.methods.specs.Method3 as Method3
+use Rattle.methods.specs.Method5 as Method5
 use Rattle.engine.specs.Run.{Lent, lengthsOf, startOf, cellsLeft}
 use Rattle.engine.specs.Network.{edgeOf}
 use Rattle.engine.proofs.Intake.{long}
@@ -40,7 +43,7 @@ module _ (request : List ℕ) (lent : Lent)
   source-below : h .source < h .vertices
   source-below = accepted-in _ _ w .source-there
 
-  limited : (h .method ≡ 1) ⊎ (h .method ≡ 3) → Edges.Limited mostWeight (edgeOf ws) (h .vertices) (h .edges)
+  limited : (h .method ≡ 1) ⊎ (h .method ≡ 3) ⊎ (h .method ≡ 5) → Edges.Limited mostWeight (edgeOf ws) (h .vertices) (h .edges)
   limited e =
       record {
         from-below = λ i l. edge-in request _ w i e l .from-below;
@@ -49,7 +52,7 @@ module _ (request : List ℕ) (lent : Lent)
       }
 
   -- A method over edges that has its cells where intake lays them.
-  given-edges : (at : Edges.Places) {to weight : ℕ} → (h .method ≡ 1) ⊎ (h .method ≡ 3) → at .count ≡ cellsOf h
+  given-edges : (at : Edges.Places) {to weight : ℕ} → (h .method ≡ 1) ⊎ (h .method ≡ 3) ⊎ (h .method ≡ 5) → at .count ≡ cellsOf h
       → EdgesLaid h ws (lent .cells) to weight
       → ((i : ℕ) → at .from i ≡ 0 + i) → ((i : ℕ) → at .to i ≡ to + i) → ((i : ℕ) → at .weight i ≡ weight + i)
       → Edges.Laid at mostWeight (edgeOf ws) (h .vertices) (h .edges) (h .source) (startOf request lent)
@@ -70,7 +73,17 @@ module _ (request : List ℕ) (lent : Lent)
   given3 : h .method ≡ 3
       → Edges.Laid (Method3.places (h .vertices) (h .edges)) mostWeight (edgeOf ws) (h .vertices) (h .edges) (h .source) (startOf request lent)
   given3 e =
-      given-edges _ (inr e) (cells-three h e) (edges-three h ws (lent .cells) e) (λ i. refl) (λ i. omega arith) (λ i. refl)
+      given-edges _ (inr (inl e)) (cells-three h e) (edges-three h ws (lent .cells) e) (λ i. refl) (λ i. omega arith) (λ i. refl)
+
+  given5 : h .method ≡ 5
+      → Edges.Laid (Method5.places (h .vertices) (h .edges)) mostWeight (edgeOf ws) (h .vertices) (h .edges) (h .source) (startOf request lent)
+  given5 e = given-edges _ (inr (inr e)) (cells-five h e) (edges-five h ws (lent .cells) e) (λ i. refl) (λ i. refl) (λ i. refl)
+
+  aimed : h .method ≡ 5 → cellAt (startOf request lent) (Method5.goal (h .vertices) (h .edges)) ≡ pos (destinationIn h ws)
+  aimed e =
+      let a = accepted-in _ _ w in
+      let there = destination-in request _ w e in
+      rw add-zero (destination-laid h ws (lent .cells) e (a .vertices-some) (omega (arith, a .vertices-few)))
 
   entry : h .method ≡ 2 → (u j : ℕ) → u < h .vertices → j < h .vertices → Range (weightOf (getD ws (u * h .vertices + j) 0))
   entry e u j p q =
@@ -94,6 +107,9 @@ module _ (request : List ℕ) (lent : Lent)
         one = given1;
         two = given2;
         three = given3;
+        five = given5;
+        aimed = aimed;
+        there = destination-in request _ w;
         sorted = λ e i. sorted-in request _ w i e;
         same = λ e. same-edges (h .vertices) ws (entry e);
       })

@@ -11,14 +11,16 @@ use lib.IntN.{ℤ}
 use lib.ListN.{length, getD}
 use Rattle.answers.specs.Refusal.{plain, placed}
 use Rattle.plans.specs.Limits.{far}
-use Rattle.plans.specs.Plan.{Kind, distances, parents}
+use Rattle.plans.specs.Plan.{Kind, distances, parents, route}
 use Rattle.runner.proofs.PlanWithin.{within-plan}
 use Rattle.runner.proofs.Refused.{nine-exactly, seven-exactly, settled-plan}
 use Rattle.runner.proofs.Foreign.{refused-plan, told-plan, length-told, log-beyond, cells-long, cells-spared, replayed-plan, charge-plan, words-plan}
 use Rattle.requests.specs.WithinLimits.{headerIn, wordsIn}
 use Rattle.requests.proofs.WithinLimits.{within}
-use Rattle.requests.proofs.Refused.{public-refused, word-refused, settled}
+use Rattle.requests.proofs.Refused.{plain-refused, word-refused, settled}
+use Rattle.requests.specs.Word.{destinationIn}
 use Rattle.graph.specs.Jacobi.{Synchronous}
+use Rattle.graph.specs.Route.{RouteTo}
 use Rattle.graph.proofs.Parents.{distances-carried, parents-carried}
 use Rattle.engine.specs.Run.{Lent, outcome}
 use Rattle.engine.specs.Network.{edgeOf, networkOf, namingOf, sourcesOf}
@@ -40,7 +42,7 @@ demand1 request lent =
     record {
       runs = within request _;
       refuses = λ r e. rw e;
-      refuses-public = λ k. Iff·trans (refused-exactly request lent (plain k) (inl refl)) (public-refused request _ k);
+      refuses-plain = λ k. Iff·trans (refused-exactly request lent (plain k) (inl refl)) (plain-refused request _ k);
       refuses-word = λ k place. Iff·trans (refused-exactly request lent (placed k place) (inr refl)) (word-refused request _ k place);
       settled = settled request _;
       tells = λ ran.
@@ -107,6 +109,14 @@ pub synchronous-passes : (request : List ℕ) (lent : Lent) → RanOn request le
     (resultOf request lent distances) (resultOf request lent parents)
 unfolding besidesOf
 synchronous-passes request lent ran three t = rw three at (demand2 request lent .besides ran t)
+
+-- Method 5's route, without the table: the parents given, followed back from the destination; no other row does (graph's `one-route`).
+pub route-shown : (request : List ℕ) (lent : Lent) → RanOn request lent → headerIn request .method ≡ 5 → verdictTold request lent ≡ 0
+    → RouteTo (edgeOf (wordsIn request)) (headerIn request .edges) far (headerIn request .vertices) (headerIn request .source)
+    (resultOf request lent distances) (resultOf request lent parents) (destinationIn (headerIn request) (wordsIn request))
+    (resultOf request lent route)
+unfolding besidesOf
+route-shown request lent ran five t = rw five at (demand2 request lent .besides ran t)
 
 -- Demand 3: what the log tells, of two runs and of one.
 pub demand3a : Demand3a

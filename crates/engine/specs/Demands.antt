@@ -19,7 +19,7 @@ use Rattle.plans.specs.Plan.{cellsOf, instructionsOf, planOf, Kind, distances, 
 use Rattle.runner.specs.Runner.{logSize, runnerRefusal, planOutcome, planRounds, planLength, planLog}
 use Rattle.runner.specs.PlanWithin.{PlanWithin, NotAllowedAt, LogShort}
 use Rattle.requests.specs.Refusal.{logLengthOf}
-use Rattle.requests.specs.WithinLimits.{headerIn, wordsIn, FirstBroken, publicLimits, WithinLimits, BrokenAt}
+use Rattle.requests.specs.WithinLimits.{headerIn, wordsIn, FirstBroken, publicLimits, WithinLimits, BrokenAt, BrokenLast}
 use Rattle.intake.specs.Intake.{sourceOf, laid}
 use Rattle.graph.specs.Walk.{NegativeCycle}
 use Rattle.graph.specs.Shortest.{Distances, Parents, Shortest}
@@ -64,16 +64,20 @@ pub record Demand1 (request : List ℕ) (lent : Lent) : Type 0 where
   -- Every other gets its number and, where there is one, its place, and changes no lent buffer: it is refused by r.
   pub refuses : (r : Refusal) → refusalOf request lent ≡ some r
       → outcome request lent ≡ record { answer = refused r; cells = lent .cells; log = lent .log; results = lent .results }
-  -- By a number alone exactly where that is the number of the first public limit that it breaks.
-  pub refuses-public : (number : ℕ) → (outcome request lent ≡ refusedBy (plain number) lent) ↔ FirstBroken (publicLimits request (lengthsOf lent)) number
+  -- By a number alone exactly where that is the number of the first public limit that it breaks; or where it keeps those and every word's, and it is
+  -- the number of the first limit broken after them (method 5's destination).
+  pub refuses-plain : (number : ℕ)
+      → (outcome request lent ≡ refusedBy (plain number) lent)
+      ↔ (FirstBroken (publicLimits request (lengthsOf lent)) number ⊎ BrokenLast request (lengthsOf lent) number)
   -- By a number and a place exactly where it keeps those, the word there is the first that breaks a limit, and the number is that of the first
   -- limit that this word breaks.
   pub refuses-word : (number place : ℕ)
       → (outcome request lent ≡ refusedBy (placed number place) lent) ↔ BrokenAt request (lengthsOf lent) place number
-  -- There is nothing else: it keeps every limit, or breaks one that is public, or one of a word.
+  -- There is nothing else: it keeps every limit, or breaks one that is public, or one of a word, or one after them.
   pub settled : WithinLimits request (lengthsOf lent)
       ⊎ ((number : ℕ) × FirstBroken (publicLimits request (lengthsOf lent)) number)
       ⊎ ((place : ℕ) × (number : ℕ) × BrokenAt request (lengthsOf lent) place number)
+      ⊎ ((number : ℕ) × BrokenLast request (lengthsOf lent) number)
   -- A run is told by 0 or, with verdict 1, by 12, with rounds, log length and verdict.
   pub tells : RanOn request lent
       → (outcome request lent .answer
@@ -91,7 +95,7 @@ pub record Demand1 (request : List ℕ) (lent : Lent) : Type 0 where
 abbrev pub resultOf : (request : List ℕ) → Lent → Kind → (i : ℕ) → ℤ
 resultOf request lent k i = getD (outcome request lent .results k) i (pos 0)
 
--- Methods 1 to 3 have one source, the header's; a method may have more, with a row of distances for each, and may give no parents.
+-- Every method so far has one source, the header's; a method may have more, with a row of distances for each, and may give no parents.
 pub record Demand2 (request : List ℕ) (lent : Lent) : Type 0 where
   pub cycle : RanOn request lent
       → (verdictTold request lent ≡ 1)
@@ -110,7 +114,9 @@ pub record Demand2 (request : List ℕ) (lent : Lent) : Type 0 where
       → Parents (networkOf (headerIn request) (wordsIn request)) (namingOf (headerIn request) (wordsIn request)) far
       (headerIn request .vertices) (headerIn request .source) (resultOf request lent distances) (resultOf request lent parents)
   -- What the method fixes of them besides: in method 3 they are those of synchronous passes, each reading the distances of the pass before, the
-  -- least offer to each vertex, by the lowest edge among equal ones, taken on a strict gain only.
+  -- least offer to each vertex, by the lowest edge among equal ones, taken on a strict gain only. In method 5 the route is the parents followed back
+  -- from the destination: for a reached one edges that, the last first, lead to it from the source with its distance as total, and then -1; for the
+  -- source and an unreached one -1 alone.
   pub besides : RanOn request lent → verdictTold request lent ≡ 0
       → besidesOf (headerIn request) (wordsIn request) (resultOf request lent)
 

@@ -14,7 +14,7 @@ use Rattle.machine.specs.Effect.{isZero, cellAt}
 use Rattle.machine.specs.Log.{cellsAfter, logOf}
 use Rattle.machine.specs.Depth.{chargeOf}
 use Rattle.plans.specs.declared.Header.{Header}
-use Rattle.plans.specs.Plan.{planOf, verdictCell, Kind, distances, parents, resultsOf}
+use Rattle.plans.specs.Plan.{planOf, verdictCell, Kind, distances, parents, route, resultsOf}
 use Rattle.requests.specs.declared.Lengths.{Lengths}
 use Rattle.requests.specs.Refusal.{requestRefusal}
 use Rattle.requests.specs.WithinLimits.{headerIn, wordsIn}
@@ -50,6 +50,7 @@ lengthsOf lent =
       log = length (lent .log);
       distances = length (lent .results distances);
       parents = length (lent .results parents);
+      route = length (lent .results route);
     }
 
 abbrev pub refusalOf : (request : List ℕ) → Lent → Option Refusal

@@ -92,14 +92,16 @@ pub fn run(
     log: &mut [u64],
     distances: &mut [i64],
     parents: &mut [i64],
+    route: &mut [i64],
 ) -> Answer
-    ensures { λ r. ⌜ Met (outcome (now (request .entry)) (record { cells = now (cells .entry); log = now (log .entry); results = byKind (now (distances .entry)) (now (parents .entry)) })) r (now (cells .exit)) (now (log .exit)) (byKind (now (distances .exit)) (now (parents .exit))) ⌝ }
+    ensures { λ r. ⌜ Met (outcome (now (request .entry)) (record { cells = now (cells .entry); log = now (log .entry); results = byKind (now (distances .entry)) (now (parents .entry)) (now (route .entry)) })) r (now (cells .exit)) (now (log .exit)) (byKind (now (distances .exit)) (now (parents .exit)) (now (route .exit))) ⌝ }
 {
     let lent = Lengths {
         cells: cells.len(),
         log: log.len(),
         distances: distances.len(),
         parents: parents.len(),
+        route: route.len(),
     };
     if let Checked::Refused(refusal) = requests::check(request, lent) {
         return Answer::Refused(refusal);
@@ -119,5 +121,6 @@ pub fn run(
     }
     copy_out(cells, f.distances, distances);
     copy_out(cells, f.parents, parents);
+    copy_out(cells, f.route, route);
     Answer::Ran(report)
 }

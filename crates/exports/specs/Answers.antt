@@ -17,11 +17,12 @@ abbrev pub placeNumbers : Option ℕ → (rest : List ℕ) → List ℕ
 placeNumbers none rest = 0 ∷ 0 ∷ rest
 placeNumbers (some place) rest = 1 ∷ place ∷ rest
 
--- Seven numbers: the refusal's, 0 where there is none; the place; and up to four values, 0 where there is none.
+-- Eight numbers: the refusal's, 0 where there is none; the place; and up to five values, 0 where there is none.
 abbrev pub numbersOf : Told → List ℕ
 numbersOf t =
     t .number
-    ∷ placeNumbers (t .place) (getD (t .values) 0 0 ∷ getD (t .values) 1 0 ∷ getD (t .values) 2 0 ∷ getD (t .values) 3 0 ∷ [])
+    ∷ placeNumbers (t .place)
+    (getD (t .values) 0 0 ∷ getD (t .values) 1 0 ∷ getD (t .values) 2 0 ∷ getD (t .values) 3 0 ∷ getD (t .values) 4 0 ∷ [])
 
 pub record LeftByRun (o : Outcome) (answer : List ℕ) (cells : List ℤ) (log : List ℕ) (results : Kind → List ℤ) : Type 0 where
   pub answers : answer ≡ numbersOf (o .answer)

@@ -1,4 +1,4 @@
-// The engine for programs in other languages: four calls on plain numbers, with the answer as seven numbers (docs/CALLING.md).
+// The engine for programs in other languages: four calls on plain numbers, with the answer as eight numbers (docs/CALLING.md).
 // Rests on answers, engine, requests, runner and planner.
 use answers::Refusal;
 use engine::Answer;
@@ -14,44 +14,44 @@ ghost use Rattle.runner.specs.Runner.{toldByPlan, planOutcome};
 ghost use Rattle.engine.specs.Run.{toldByRun, outcome};
 ghost use Rattle.exports.specs.Answers.{numbersOf, LeftByRun, LeftByPlan, LeftByWriting};
 
-fn refusal_numbers(r: Refusal) -> [u64; 7]
+fn refusal_numbers(r: Refusal) -> [u64; 8]
     ensures { λ a. ⌜ a ≡ numbersOf (refused r) ⌝ }
 {
     if r.placed {
-        return [r.number, 1, r.place as u64, 0, 0, 0, 0];
+        return [r.number, 1, r.place as u64, 0, 0, 0, 0, 0];
     }
-    [r.number, 0, 0, 0, 0, 0, 0]
+    [r.number, 0, 0, 0, 0, 0, 0, 0]
 }
 
-fn run_numbers(answer: Answer) -> [u64; 7]
+fn run_numbers(answer: Answer) -> [u64; 8]
     ensures { λ a. ⌜ a ≡ numbersOf (toldByRun answer) ⌝ }
 {
     match answer {
-        Answer::Ran(r) => [0, 0, 0, r.rounds, r.log_length as u64, r.verdict, 0],
-        Answer::NegativeCycle(r) => [12, 0, 0, r.rounds, r.log_length as u64, r.verdict, 0],
+        Answer::Ran(r) => [0, 0, 0, r.rounds, r.log_length as u64, r.verdict, 0, 0],
+        Answer::NegativeCycle(r) => [12, 0, 0, r.rounds, r.log_length as u64, r.verdict, 0, 0],
         Answer::Refused(refusal) => refusal_numbers(refusal),
     }
 }
 
-fn plan_numbers(answer: PlanAnswer) -> [u64; 7]
+fn plan_numbers(answer: PlanAnswer) -> [u64; 8]
     ensures { λ a. ⌜ a ≡ numbersOf (toldByPlan answer) ⌝ }
 {
     match answer {
-        PlanAnswer::Ran(t) => [0, 0, 0, t.rounds, t.length as u64, 0, 0],
+        PlanAnswer::Ran(t) => [0, 0, 0, t.rounds, t.length as u64, 0, 0, 0],
         PlanAnswer::Refused(refusal) => refusal_numbers(refusal),
     }
 }
 
-fn written_numbers(answer: Written) -> [u64; 7]
+fn written_numbers(answer: Written) -> [u64; 8]
     ensures { λ a. ⌜ a ≡ numbersOf (toldByWriting answer) ⌝ }
 {
     match answer {
-        Written::Length(size) => [0, 0, 0, size as u64, 0, 0, 0],
+        Written::Length(size) => [0, 0, 0, size as u64, 0, 0, 0, 0],
         Written::Refused(refusal) => refusal_numbers(refusal),
     }
 }
 
-fn sizes_numbers(answer: Asked) -> [u64; 7]
+fn sizes_numbers(answer: Asked) -> [u64; 8]
     ensures { λ a. ⌜ a ≡ numbersOf (toldBySizes answer) ⌝ }
 {
     match answer {
@@ -63,6 +63,7 @@ fn sizes_numbers(answer: Asked) -> [u64; 7]
             s.log as u64,
             s.distances as u64,
             s.parents as u64,
+            s.route as u64,
         ],
         Asked::Refused(refusal) => refusal_numbers(refusal),
     }
@@ -76,11 +77,12 @@ pub extern "C" fn vukstaja_run(
     log: &mut [u64],
     distances: &mut [i64],
     parents: &mut [i64],
-    answer: &mut [u64; 7],
+    route: &mut [i64],
+    answer: &mut [u64; 8],
 )
-    ensures { λ _. ⌜ LeftByRun (outcome (now (request .entry)) (record { cells = now (cells .entry); log = now (log .entry); results = byKind (now (distances .entry)) (now (parents .entry)) })) (now (answer .exit)) (now (cells .exit)) (now (log .exit)) (byKind (now (distances .exit)) (now (parents .exit))) ⌝ }
+    ensures { λ _. ⌜ LeftByRun (outcome (now (request .entry)) (record { cells = now (cells .entry); log = now (log .entry); results = byKind (now (distances .entry)) (now (parents .entry)) (now (route .entry)) })) (now (answer .exit)) (now (cells .exit)) (now (log .exit)) (byKind (now (distances .exit)) (now (parents .exit)) (now (route .exit))) ⌝ }
 {
-    *answer = run_numbers(engine::run(request, cells, log, distances, parents));
+    *answer = run_numbers(engine::run(request, cells, log, distances, parents, route));
 }
 
 // A foreign plan run.
@@ -89,7 +91,7 @@ pub extern "C" fn vukstaja_run_plan(
     plan: &[u64],
     cells: &mut [i64],
     log: &mut [u64],
-    answer: &mut [u64; 7],
+    answer: &mut [u64; 8],
 )
     ensures { λ _. ⌜ LeftByPlan (planOutcome (now (plan .entry)) (now (cells .entry)) (now (log .entry))) (now (answer .exit)) (now (cells .exit)) (now (log .exit)) ⌝ }
 {
@@ -98,7 +100,7 @@ pub extern "C" fn vukstaja_run_plan(
 
 // The plan of a header written.
 #[no_mangle]
-pub extern "C" fn vukstaja_write_plan(header: &[u64], plan: &mut [u64], answer: &mut [u64; 7])
+pub extern "C" fn vukstaja_write_plan(header: &[u64], plan: &mut [u64], answer: &mut [u64; 8])
     ensures { λ _. ⌜ LeftByWriting (now (header .entry)) (now (plan .entry)) (now (answer .exit)) (now (plan .exit)) ⌝ }
 {
     *answer = written_numbers(planner::write_plan(header, plan));
@@ -106,7 +108,7 @@ pub extern "C" fn vukstaja_write_plan(header: &[u64], plan: &mut [u64], answer: 
 
 // What a header asks a caller to lend.
 #[no_mangle]
-pub extern "C" fn vukstaja_sizes(header: &[u64], answer: &mut [u64; 7])
+pub extern "C" fn vukstaja_sizes(header: &[u64], answer: &mut [u64; 8])
     ensures { λ _. ⌜ now (answer .exit) ≡ numbersOf (sizesTold (now (header .entry))) ⌝ }
 {
     *answer = sizes_numbers(requests::sizes_needed(header));

@@ -1,3 +1,2 @@
-pub mod Corners
-pub mod Sorted
+pub mod Runs
 pub mod Rules

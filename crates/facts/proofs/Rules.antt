@@ -12,6 +12,7 @@ use Rattle.plans.specs.Outline.{instructions}
 use Rattle.plans.specs.Method1 as Method1
 use Rattle.plans.specs.Method2 as Method2
 use Rattle.plans.specs.Method3 as Method3
+use Rattle.plans.specs.Method5 as Method5
 use Rattle.plans.specs.Plan.{Kind, instructionsOf, planOf, wordCountOf, cellsOf, resultsOf, lengthOf, verdictCell}
 use Rattle.plans.proofs.EachKind.{each-kind}
 use Rattle.plans.proofs.Facts as Plans
@@ -20,7 +21,7 @@ use Rattle.planner.proofs.Facts as Planner
 use Rattle.runner.specs.Runner.{firstBad, logSize, runnerRefusal, planOutcome}
 use Rattle.runner.proofs.Facts as Runner
 use Rattle.requests.specs.Word.{weightOf}
-use Rattle.requests.specs.Refusal.{logLengthOf, sizesRefusal, inRange, edgeRefusal, sortedRefusal, entryRefusal, wordRefusal, wordsRefusal, requestRefusal}
+use Rattle.requests.specs.Refusal.{logLengthOf, sizesRefusal, inRange, edgeRefusal, sortedRefusal, entryRefusal, wordRefusal, wordsRefusal, lastRefusal, requestRefusal}
 use Rattle.requests.proofs.Facts as Requests
 use Rattle.intake.specs.Intake.{stripsOf, sourceOf, laid, copied, startingCells}
 use Rattle.intake.proofs.Facts as Intake
@@ -33,7 +34,7 @@ same : (o p : Outcome) → o .answer ≡ p .answer → o .cells ≡ p .cells →
 same o p a c l r = λ i. record { answer = a i; cells = c i; log = l i; results = fun-ext r i }
 
 pub rules : Rules
-unfolding signedOf bitsOf bit wrapAdd both pick perform packed packedSet decodeAt zerosKept present admissibleAt carry logged cellsAfter logFrom logOf withoutPublishedFrom withoutPublished sumOf greatestFrom decodeAll depthOf chargeOf flat instructions Method1.plan Method2.plan Method3.plan instructionsOf planOf cellsOf resultsOf lengthOf headerRefusal weightOf wordCountOf logLengthOf verdictCell sizesRefusal inRange edgeRefusal sortedRefusal entryRefusal wordRefusal wordsRefusal requestRefusal stripsOf sourceOf laid copied startingCells firstBad logSize runnerRefusal planOutcome verdictOf outcome sourcesOf
+unfolding signedOf bitsOf bit wrapAdd both pick perform packed packedSet decodeAt zerosKept present admissibleAt carry logged cellsAfter logFrom logOf withoutPublishedFrom withoutPublished sumOf greatestFrom decodeAll depthOf chargeOf flat instructions Method1.plan Method2.plan Method3.plan Method5.plan instructionsOf planOf cellsOf resultsOf lengthOf headerRefusal weightOf wordCountOf logLengthOf verdictCell sizesRefusal inRange edgeRefusal sortedRefusal entryRefusal wordRefusal wordsRefusal lastRefusal requestRefusal stripsOf sourceOf laid copied startingCells firstBad logSize runnerRefusal planOutcome verdictOf outcome sourcesOf
 rules =
     record {
       answers = Answers.facts;
@@ -43,14 +44,14 @@ rules =
       requests = Requests.facts;
       intake = Intake.facts;
       runner = Runner.facts;
-      one = (refl, refl);
+      one = (refl, refl, refl, refl);
       two = refl;
       three = refl;
       four = refl;
-      five = refl;
+      five = (refl, refl);
       six = refl;
       seven = refl;
-      eight = (refl, refl);
+      eight = (refl, refl, refl);
       nine = refl;
       ten = (refl, refl);
       eleven = refl;
@@ -58,8 +59,10 @@ rules =
       thirteen = (refl, refl);
       fourteen = (refl, refl);
       fifteen = (refl, refl);
+      sixteen = (refl, refl);
       fault-order = (refl, refl, refl, refl);
       refuses = refl;
-      untouched = same _ _ refl refl refl (each-kind _ refl refl);
-      sources = (refl, refl, refl);
+      untouched = same _ _ refl refl refl (each-kind _ refl refl refl);
+      untouched5 = same _ _ refl refl refl (each-kind _ refl refl refl);
+      sources = (refl, refl, refl, refl);
     }

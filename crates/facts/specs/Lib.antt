@@ -1,3 +1,4 @@
 pub mod Corners
 pub mod Sorted
+pub mod Routed
 pub mod Rules

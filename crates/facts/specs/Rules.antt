@@ -21,10 +21,14 @@ use Rattle.runner.specs.Runner.{planOutcome}
 use Rattle.engine.specs.Run.{Lent, outcome}
 use Rattle.engine.specs.Network.{sourcesOf}
 
--- Buffers lent with nines: cells, log words, distances, parents.
+-- Buffers lent with nines: cells, log words, distances, parents, and two places for a route.
 abbrev pub nines : (cells log distances parents : ℕ) → Lent
 nines cells log ds ps =
-    record { cells = replicate cells (pos 9); log = replicate log 9; results = byKind (replicate ds (pos 9)) (replicate ps (pos 9)) }
+    record {
+      cells = replicate cells (pos 9);
+      log = replicate log 9;
+      results = byKind (replicate ds (pos 9)) (replicate ps (pos 9)) (pos 9 ∷ pos 9 ∷ []);
+    }
 
 -- What a request is answered with such buffers.
 abbrev pub requestAnswered : (request : List ℕ) (cells log distances parents : ℕ) → Told
@@ -35,7 +39,7 @@ pub record Rules : Type 0 where
   pub answers : Answers.Facts
   -- "Cell words"
   pub machine : Machine.Facts
-  -- "Plan of method 1", "Plan of method 2", that of method 3, and the limits of "Request words"
+  -- "Plan of method 1", "Plan of method 2", those of methods 3 and 5, and the limits of "Request words"
   pub plans : Plans.Facts
   -- "Who caused it": headers, writing a plan
   pub planner : Planner.Facts
@@ -45,22 +49,27 @@ pub record Rules : Type 0 where
   pub intake : Intake.Facts
   -- "Who caused it": foreign plans
   pub runner : Runner.Facts
-  -- "1: header missing, or method not 1 or 2", and "refusal 1 admits" method 3 (document 02, ask 3).
-  pub one : (requestAnswered [] 17 48 2 2 ≡ byNumber 1) × (requestAnswered (0x4000020000100000 ∷ 0 ∷ []) 17 48 2 2 ≡ byNumber 1)
+  -- "1: header missing, or method not 1 or 2", and "refusal 1 admits" methods 3 and 5 (document 02, asks 3 and 5).
+  pub one : (requestAnswered [] 17 48 2 2 ≡ byNumber 1)
+      × (requestAnswered (0x4000020000100000 ∷ 0 ∷ []) 17 48 2 2 ≡ byNumber 1)
+      × (requestAnswered (0x6000020000100000 ∷ 0 ∷ 0 ∷ []) 21 63 2 2 ≡ byNumber 1)
+      × (requestAnswered (0x5000020000100000 ∷ 0 ∷ 0 ∷ []) 21 63 2 2 ≡ record { number = 0; place = none; values = 31 ∷ 63 ∷ 0 ∷ [] })
   -- "2: n is 0 or over 32."
   pub two : requestAnswered (0x1000000000100000 ∷ 0 ∷ []) 17 48 2 2 ≡ byNumber 2
   -- "3: m over 128, or not 0 in method 2."
   pub three : requestAnswered (0x2000010000100000 ∷ 0 ∷ []) 17 48 2 2 ≡ byNumber 3
   -- "4: source not below n."
   pub four : requestAnswered (0x1000020000100002 ∷ 0 ∷ []) 17 48 2 2 ≡ byNumber 4
-  -- "5: words after the header are not m, or not n² in method 2."
-  pub five : requestAnswered (0x1000020000100000 ∷ []) 17 48 2 2 ≡ byNumber 5
+  -- "5: words after the header are not m, or not n² in method 2"; in method 5 "5 expects m+1 words" (document 02, ask 5).
+  pub five : (requestAnswered (0x1000020000100000 ∷ []) 17 48 2 2 ≡ byNumber 5) × (requestAnswered (0x5000020000100000 ∷ 0 ∷ []) 21 63 2 2 ≡ byNumber 5)
   -- "6: too few cells."
   pub six : requestAnswered (0x1000020000100000 ∷ 0 ∷ []) 16 48 2 2 ≡ byNumber 6
   -- "7: log .. too short."
   pub seven : requestAnswered (0x1000020000100000 ∷ 0 ∷ []) 17 47 2 2 ≡ byNumber 7
-  -- "8: a results buffer shorter than n."
-  pub eight : (requestAnswered (0x1000020000100000 ∷ 0 ∷ []) 17 48 1 2 ≡ byNumber 8) × (requestAnswered (0x1000020000100000 ∷ 0 ∷ []) 17 48 2 1 ≡ byNumber 8)
+  -- "8: a results buffer shorter than n", and "8 covers the route buffer of n−1 places", here of 4 yards.
+  pub eight : (requestAnswered (0x1000020000100000 ∷ 0 ∷ []) 17 48 1 2 ≡ byNumber 8)
+      × (requestAnswered (0x1000020000100000 ∷ 0 ∷ []) 17 48 2 1 ≡ byNumber 8)
+      × (requestAnswered (0x5000040000000000 ∷ 0 ∷ []) 28 61 4 4 ≡ byNumber 8)
   -- "9, with place": the SET at place 1 is fine, the COPY at place 2 has a b.
   pub nine : planOutcome (0x1000020000100000 ∷ 0 ∷ 0x1000000000000001 ∷ []) (pos 9 ∷ pos 9 ∷ []) (9 ∷ 9 ∷ 9 ∷ []) .answer ≡ atPlace 9 2
   -- "10 keeps the spare bits only" (document 02, ask 1).
@@ -82,6 +91,9 @@ pub record Rules : Type 0 where
   -- and to 0 of 2 yards, and the second with a price of 1,000,001.
   pub fifteen : (requestAnswered (0x3000020000200000 ∷ 0x0001000000000000 ∷ 0x0000000000000000 ∷ []) 36 86 2 2 ≡ atPlace 15 1)
       × (requestAnswered (0x3000020000200000 ∷ 0x0001000000000000 ∷ 0x00000000000F4241 ∷ []) 36 86 2 2 ≡ atPlace 11 1)
+  -- "16, without place, when the destination is not below n, after all lanes": 2 of 2 yards; and with a lane from there.
+  pub sixteen : (requestAnswered (0x5000020000100000 ∷ 0 ∷ 2 ∷ []) 21 63 2 2 ≡ byNumber 16)
+      × (requestAnswered (0x5000020000100000 ∷ 0x0200000000000000 ∷ 2 ∷ []) 21 63 2 2 ≡ atPlace 13 0)
   -- "the order is spare bits, from, to, price": both yards bad, spare bits and from-yard, to-yard and price, all four.
   pub fault-order : (requestAnswered (0x1000020000100000 ∷ 0x0202000000000000 ∷ []) 17 48 2 2 ≡ atPlace 13 0)
       × (requestAnswered (0x1000020000100000 ∷ 0x0200000100000000 ∷ []) 17 48 2 2 ≡ atPlace 10 0)
@@ -93,7 +105,7 @@ pub record Rules : Type 0 where
         answer = atPlace 11 0;
         cells = replicate 14 (pos 9);
         log = replicate 18 9;
-        results = byKind (pos 9 ∷ []) (pos 9 ∷ []);
+        results = byKind (pos 9 ∷ []) (pos 9 ∷ []) (pos 9 ∷ pos 9 ∷ []);
       }
   -- "Cells, log and results beyond the needed part stay untouched": method 1, n = 1, m = 0, one place more of each.
   pub untouched : outcome (0x1000010000000000 ∷ []) (nines 12 9 2 2)
@@ -101,9 +113,24 @@ pub record Rules : Type 0 where
         answer = record { number = 0; place = none; values = 2 ∷ 8 ∷ 0 ∷ [] };
         cells = (pos 0 ∷ negsuc 0 ∷ pos 0 ∷ pos 274877906944 ∷ []) ++ replicate 7 (pos 0) ++ (pos 9 ∷ []);
         log = smallestPlan ++ (0 ∷ 9 ∷ []);
-        results = byKind (pos 0 ∷ pos 9 ∷ []) (negsuc 0 ∷ pos 9 ∷ []);
+        results = byKind (pos 0 ∷ pos 9 ∷ []) (negsuc 0 ∷ pos 9 ∷ []) (pos 9 ∷ pos 9 ∷ []);
+      }
+  -- The same in method 5, with a route of n - 1 places.
+  pub untouched5 : outcome (0x5000020000000000 ∷ 1 ∷ []) (nines 19 22 3 3)
+      ≡ record {
+        answer = record { number = 0; place = none; values = 9 ∷ 21 ∷ 0 ∷ [] };
+        cells =
+            (pos 0 ∷ pos 274877906944 ∷ negsuc 0 ∷ negsuc 0 ∷ pos 0 ∷ pos 1 ∷ pos 274877906944 ∷ pos 1 ∷ pos 1 ∷ [])
+            ++ (pos 0 ∷ pos 0 ∷ pos 1 ∷ pos 0 ∷ pos 0 ∷ pos 1 ∷ pos 0 ∷ pos 1 ∷ negsuc 0 ∷ pos 9 ∷ []);
+        log =
+            (0x5000020000000000 ∷ 0x0000040000000000 ∷ 0x0000000000000000 ∷ 0x000002FFFFFFFFFF ∷ 0x0000050000000001 ∷ 0x0000014000000000 ∷ [])
+            ++ (0x000003FFFFFFFFFF ∷ 0x0000064000000000 ∷ 0x00000D0000000000 ∷ 0x10000F0000400000 ∷ 0x1000100000500000 ∷ [])
+            ++ (0x1000070000E00000 ∷ 0x1000080000700000 ∷ 0x40000B0000800004 ∷ 0x6000110000B00002 ∷ 0x6000070000B0000F ∷ [])
+            ++ (0x40000B0000800005 ∷ 0x6000110000B00003 ∷ 0x6000070000B00010 ∷ 0x7000000000D00000 ∷ 0 ∷ 9 ∷ []);
+        results = byKind (pos 0 ∷ pos 274877906944 ∷ pos 9 ∷ []) (negsuc 0 ∷ negsuc 0 ∷ pos 9 ∷ []) (negsuc 0 ∷ pos 9 ∷ []);
       }
   -- The sources that distances are from: the header's, in every method.
   pub sources : (sourcesOf (headerOf 0x1000200008000007) ≡ 7 ∷ [])
       × (sourcesOf (headerOf 0x2000200000000013) ≡ 19 ∷ [])
       × (sourcesOf (headerOf 0x3000200008000005) ≡ 5 ∷ [])
+      × (sourcesOf (headerOf 0x5000200008000006) ≡ 6 ∷ [])

@@ -1,4 +1,5 @@
-// Larger networks through the engine: 32 yards in every method, 60 lanes in method 1, 128 in method 3, and the figures of their runs.
+// Larger networks through the engine: 32 yards in every method, 60 lanes in method 1, 128 in method 3, 59 in method 5, and the figures of their
+// runs.
 // Rests on engine and lines; tests/model has the same networks, and expects the same figures.
 use engine::Answer;
 use engine::Report;
@@ -19,8 +20,8 @@ const MODULUS: u64 = 1000000007;
 enum Case {
     // A chain against the order of its lanes, then lanes anywhere: rebates, and many passes that change something.
     Chain,
-    // One circle through every yard, of total -1.
-    Circle,
+    // One circle through every yard, of total -1, which the lane of this number closes.
+    Circle(u64),
     // Circles of price 0, ties, and unreached yards full of rebates.
     Ties,
     // A table with a price for about one entry in eight, and yards that are never entered.
@@ -104,14 +105,14 @@ fn chain(x: &mut u64, i: u64) -> u64
 }
 
 // Lane `i` of the circle's request. Only the circle that the last lane closes has a loss: lanes anywhere have a base of 1 or more.
-fn circle(x: &mut u64, i: u64) -> u64
+fn circle(x: &mut u64, i: u64, last: u64) -> u64
     requires { ⌜ now x < 2 ^ 31 ⌝ }
     ensures { λ _. ⌜ now (x .exit) < 2 ^ 31 ⌝ }
 {
     if i < 31 {
         return climb(30 - i, 31 - i, 0);
     }
-    if i < 59 {
+    if i < last {
         return anywhere(x, 1);
     }
     climb(31, 0, MINUS_ONE)
@@ -222,7 +223,7 @@ fn word_of(case: Case, x: &mut u64, i: u64) -> u64
     // A sorted case has 128 lanes.
     match case {
         Case::Chain => chain(x, i),
-        Case::Circle => circle(x, i),
+        Case::Circle(last) => circle(x, i, last),
         Case::Ties => ties(x, i),
         Case::Sparse => sparse(x, i),
         Case::Dense => dense(x, i),
@@ -277,7 +278,7 @@ fn put_figures(buffer: &mut [u8], h: Header, report: Report, log: &[u64]) -> usi
     text::put_numbers(buffer, 0, &line)
 }
 
-// A run's figures and, where there are results, its yards.
+// A run's figures and, where there are results, its yards and its route.
 fn put_run(
     buffer: &mut [u8],
     h: Header,
@@ -285,14 +286,16 @@ fn put_run(
     log: &[u64],
     distances: &[i64],
     parents: &[i64],
+    route: &[i64],
 ) -> usize
-    requires { ⌜ (2248 ≤ length (now buffer)) × (length (now distances) ≡ 32) × (length (now parents) ≡ 32) × (toldByRun answer .number ≡ 0 → h .vertices ≤ 32) ⌝ }
+    requires { ⌜ (2936 ≤ length (now buffer)) × (length (now distances) ≡ 32) × (length (now parents) ≡ 32) × (length (now route) ≡ 31) × (toldByRun answer .number ≡ 0 → (0 < h .vertices) × (h .vertices ≤ 32)) ⌝ }
     ensures { λ r. ⌜ r ≤ length (now (buffer .exit)) ⌝ }
 {
     match answer {
         Answer::Ran(report) => {
             let next = put_figures(buffer, h, report, log);
-            lines::put_rows(buffer, next, h.vertices as usize, distances, parents)
+            let last = lines::put_rows(buffer, next, h.vertices as usize, distances, parents);
+            lines::put_route(buffer, last, h, route)
         }
         Answer::NegativeCycle(report) => put_figures(buffer, h, report, log),
         Answer::Refused(_) => text::put_bytes(buffer, 0, b"refused\n"),
@@ -308,17 +311,35 @@ fn show(request: &[u64])
     let mut log = [0u64; 497321];
     let mut distances = [0i64; 32];
     let mut parents = [0i64; 32];
-    let answer = engine::run(request, &mut cells, &mut log, &mut distances, &mut parents);
-    let mut buffer = [0u8; 2248];
-    let size = put_run(&mut buffer, h, answer, &log, &distances, &parents);
+    let mut route = [0i64; 31];
+    let answer = engine::run(
+        request,
+        &mut cells,
+        &mut log,
+        &mut distances,
+        &mut parents,
+        &mut route,
+    );
+    let mut buffer = [0u8; 2936];
+    let size = put_run(&mut buffer, h, answer, &log, &distances, &parents, &route);
     io::write_all(STDOUT_FILENO, &buffer[..size]);
+}
+
+// A case's request of method 5, run: the destination takes the place of the last word built.
+fn show_route(case: Case, seed: u64, header: u64, destination: u64, request: &mut [u64])
+    requires { ⌜ (seed < 2 ^ 31) × (1 ≤ length (now request)) × (length (now request) ≤ 1025) ⌝ }
+{
+    build(case, seed, header, request);
+    let last = request.len() - 1;
+    request[last] = destination;
+    show(request);
 }
 
 fn main() {
     let mut lanes = [0u64; 61];
     build(Case::Chain, 252, 0x1000200003C00000, &mut lanes);
     show(&lanes);
-    build(Case::Circle, 2, 0x1000200003C00000, &mut lanes);
+    build(Case::Circle(59), 2, 0x1000200003C00000, &mut lanes);
     show(&lanes);
     build(Case::Ties, 110, 0x1000200003C00005, &mut lanes);
     show(&lanes);
@@ -334,4 +355,7 @@ fn main() {
     show(&sorted);
     build(Case::SortedTies, 282, 0x3000200008000005, &mut sorted);
     show(&sorted);
+    show_route(Case::Chain, 1000, 0x5000200003B00000, 31, &mut lanes);
+    show_route(Case::Circle(58), 2, 0x5000200003B00000, 31, &mut lanes);
+    show_route(Case::Ties, 940, 0x5000200003B00005, 10, &mut lanes);
 }

@@ -1,4 +1,4 @@
--- The theorems on Bellman-Ford, in place and by Jacobi passes, and on Dijkstra, and what they rest on, in order.
+-- The theorems on Bellman-Ford, in place and by Jacobi passes, on Dijkstra and on routes, and what they rest on, in order.
 -- Rests on the definitions.
 pub mod Test
 pub mod Int
@@ -14,3 +14,6 @@ pub mod Synchronous
 pub mod Sweep
 pub mod Dijkstra
 pub mod SameEdges
+pub mod Distances
+pub mod Marks
+pub mod Route

@@ -1,7 +1,8 @@
--- The definitions: walks, what distances and parents have to be, Bellman-Ford in place and by Jacobi passes, Dijkstra.
+-- The definitions: walks, what distances and parents have to be, Bellman-Ford in place and by Jacobi passes, Dijkstra, routes.
 -- Rests on the toolchain's library alone.
 pub mod Walk
 pub mod Shortest
 pub mod BellmanFord
 pub mod Jacobi
 pub mod Dijkstra
+pub mod Route

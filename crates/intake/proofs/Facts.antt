@@ -14,7 +14,10 @@ facts =
       strips1 = (refl, refl, refl, refl, refl, refl, refl, refl, refl, refl, refl, refl);
       strips2 = (refl, refl, refl, refl, refl);
       strips3 = (refl, refl, refl, refl, refl, refl, refl, refl, refl, refl, refl, refl, refl);
+      strips5 = (refl, refl, refl, refl, refl, refl, refl, refl, refl, refl, refl, refl, refl, refl);
       start1 = refl;
       start3 = refl;
+      start5 = refl;
+      whole = (refl, refl);
       start2 = refl;
     }

@@ -4,8 +4,8 @@ use mathlib.Core.Path.{_≡_, refl, sym, ap, _∙_}
 use mathlib.Core.Logic.{_⊎_, inl, inr, ⊎-elim}
 use mathlib.Core.Bool.{Bool, true, false, cond}
 use mathlib.Core.List.{List, [], _∷_, _++_}
-use Prim.Native.Nat.{ℕ, zero, suc, _+_, _-_, _*_, _<_, _≤_, zero-le}
-use native.Mathlib.Nat.{zero-add}
+use Prim.Native.Nat.{ℕ, zero, suc, _+_, _-_, _*_, _^_, _<_, _≤_, zero-le}
+use native.Mathlib.Nat.{zero-add, add-zero}
 use native.Mathlib.Numerals.{add-one}
 use native.Mathlib.Omega.{arith}
 use lib.Arith.{digits-lt}
@@ -13,7 +13,8 @@ use lib.Dec.{leb, ltb}
 use lib.IntN.{ℤ, pos}
 use lib.ListN.{length, getD, drop, replicate, drop-of-length-le}
 use lib.Seq.{sets, length-sets, drop-cons, getD-drop, ext-getD}
-use borrow.Author.Tests.{leb-true, leb-false, ltb-true, ltb-false}
+use borrow.Author.Tests.{lt-ltb, leb-true, leb-false, ltb-true, ltb-false}
+use Rattle.fields.specs.Fields.{signedOf}
 use Rattle.machine.specs.Effect.{cellAt}
 use Rattle.machine.specs.Instruction.{All}
 use Rattle.plans.specs.declared.Header.{Header}
@@ -22,9 +23,9 @@ use Rattle.plans.specs.Regions.{cell}
 use Rattle.plans.specs.Method2 as Method2
 use Rattle.plans.specs.Plan.{Accepted, wordCountOf, cellsOf}
 use Rattle.plans.proofs.Headers.{by-method}
-use Rattle.requests.specs.Word.{fromField, toField, weightOf}
-use Rattle.requests.proofs.Sizes.{cells-one, cells-two, cells-three}
-use Rattle.intake.specs.declared.Part.the-variants.{Entry}
+use Rattle.requests.specs.Word.{destinationIn, fromField, toField, weightOf}
+use Rattle.requests.proofs.Sizes.{cells-one, cells-two, cells-three, cells-five}
+use Rattle.intake.specs.declared.Part.the-variants.{Entry, Whole}
 use Rattle.intake.specs.declared.Strip.{Strip}
 use Rattle.intake.specs.Intake.{strip, edgeStrips, stripsOf, Source, nothing, sourceIn, covers, sourceFrom, sourceOf, orFar, partOf, laid, copied, startingCells, stripNumbers, StripFits, empty, mostStrips, padded}
 use Rattle.intake.proofs.Copied.{ones, copied-long, copied-at, copied-rest, copied-same, set-at, set-beside}
@@ -138,6 +139,12 @@ module _ (h : Header) where
   unfolding stripsOf
   strips-three e = rw e
 
+  strips-five : h .method ≡ 5
+      → stripsOf h
+      ≡ edgeStrips (h .edges) (h .edges) (2 * h .edges) ++ (strip (3 * h .edges + 3 * h .vertices + 8) 1 (h .edges) Whole ∷ [])
+  unfolding stripsOf
+  strips-five e = rw e
+
 -- ---- the array of a header's strips
 
 unpadded : (ws : List ℕ) (n : ℕ) (rs : List Strip) (cells : List ℤ) → layAll ws (rs ++ replicate n empty) cells ≡ layAll ws rs cells
@@ -161,6 +168,7 @@ strips-fit =
     by-method (λ h. All (StripFits (wordCountOf h) (cellsOf h)) (stripsOf h))
     (λ n m source a. search arith)
     (λ n source a. search arith)
+    (λ n m source a. search arith)
     (λ n m source a. search arith)
 
 -- ---- the whole
@@ -246,20 +254,44 @@ module _ (h : Header) (ws : List ℕ) (lent : List ℤ) where
     pub to-is : (i : ℕ) → i < h .edges → cellAt (startingCells h ws lent) (to + i) ≡ pos (toField (getD ws i 0))
     pub weight-is : (i : ℕ) → i < h .edges → cellAt (startingCells h ws lent) (weight + i) ≡ weightOf (getD ws i 0)
 
-  edges-laid : (to weight : ℕ) → stripsOf h ≡ edgeStrips (h .edges) to weight
-      → h .edges ≤ to → to + h .edges ≤ weight → weight + h .edges ≤ cellsOf h → EdgesLaid to weight
-  edges-laid to weight strips after after-to inside =
+  -- The strips of the edges, and others that are beside them.
+  edges-laid : (to weight : ℕ) (rs : List Strip) → stripsOf h ≡ edgeStrips (h .edges) to weight ++ rs
+      → h .edges ≤ to → to + h .edges ≤ weight → weight + h .edges ≤ cellsOf h → ((k : ℕ) → k < weight + h .edges → All (Beside k) rs)
+      → EdgesLaid to weight
+  edges-laid to weight rs strips after after-to inside beside =
       record {
-        from-is = λ i l. rw zero-add (rw zero-add at (named [] _ _ strips i i (omega arith) l (search arith) (omega arith)));
-        to-is = λ i l. rw zero-add at (named (_ ∷ []) _ _ strips (to + i) i refl l (search arith) (omega arith));
-        weight-is = λ i l. rw zero-add at (named (_ ∷ _ ∷ []) _ _ strips (weight + i) i refl l tt (omega arith));
+        from-is =
+            λ i l.
+            rw zero-add
+            (rw zero-add at
+            (named [] _ _ strips i i (omega arith) l (λ (g : to ≤ i). omega arith, (λ (g : weight ≤ i). omega arith, beside i (omega arith))) (omega arith)));
+        to-is =
+            λ i l.
+            rw zero-add at
+            (named (_ ∷ []) _ _ strips (to + i) i refl l (λ (g : weight ≤ to + i). omega arith, beside (to + i) (omega arith)) (omega arith));
+        weight-is =
+            λ i l. rw zero-add at (named (_ ∷ _ ∷ []) _ _ strips (weight + i) i refl l (beside (weight + i) (omega arith)) (omega arith));
       }
 
   pub edges-one : h .method ≡ 1 → EdgesLaid (h .edges) (2 * h .edges)
-  edges-one e = edges-laid _ _ (strips-one h e) (omega arith) (omega arith) (omega (arith, cells-one h e))
+  edges-one e = edges-laid _ _ [] (strips-one h e) (omega arith) (omega arith) (omega (arith, cells-one h e)) (λ k l. tt)
 
   pub edges-three : h .method ≡ 3 → EdgesLaid (h .edges + 1) (2 * h .edges + 1)
-  edges-three e = edges-laid _ _ (strips-three h e) (omega arith) (omega arith) (omega (arith, cells-three h e))
+  edges-three e = edges-laid _ _ [] (strips-three h e) (omega arith) (omega arith) (omega (arith, cells-three h e)) (λ k l. tt)
+
+  pub edges-five : h .method ≡ 5 → EdgesLaid (h .edges) (2 * h .edges)
+  edges-five e =
+      edges-laid _ _ _ (strips-five h e) (omega arith) (omega arith) (omega (arith, cells-five h e))
+      (λ k (l : k < 2 * h .edges + h .edges). (λ (g : 3 * h .edges + 3 * h .vertices + 8 ≤ k). omega arith, tt))
+
+  -- Method 5's destination.
+  pub destination-laid : h .method ≡ 5 → 0 < h .vertices → destinationIn h ws < 2 ^ 63
+      → cellAt (startingCells h ws lent) (3 * h .edges + 3 * h .vertices + 8) ≡ pos (destinationIn h ws)
+  unfolding signedOf
+  destination-laid e some small =
+      let m = h .edges in
+      let whole = named (_ ∷ _ ∷ _ ∷ []) _ [] (strips-five h e) (3 * m + 3 * h .vertices + 8) 0 (omega arith) (omega arith) tt (omega (arith, cells-five h e)) in
+      rw (add-zero m) at whole ∙ rw (lt-ltb (destinationIn h ws) (2 ^ 63) small)
 
   pub entry-laid : h .method ≡ 2 → (u j : ℕ) → u < h .vertices → j < h .vertices
       → cellAt (startingCells h ws lent) (cell (Method2.starts (h .vertices)) (Method2.U (u * h .vertices + j)))

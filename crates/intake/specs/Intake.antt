@@ -6,6 +6,7 @@ use Prim.Native.Nat.{ℕ, _+_, _-_, _*_, _≤_}
 use lib.Dec.{leb, ltb}
 use lib.IntN.{ℤ, pos}
 use lib.ListN.{length, getD, drop, replicate}
+use Rattle.fields.specs.Fields.{signedOf}
 use Rattle.machine.specs.Effect.{eqZ}
 use Rattle.plans.specs.declared.Header.{Header}
 use Rattle.plans.specs.Limits.{far, noEdge, byMethod}
@@ -13,7 +14,7 @@ use Rattle.plans.specs.Blocks.{flat}
 use Rattle.plans.specs.Plan.{cellsOf}
 use Rattle.requests.specs.Word.{fromField, toField, weightOf}
 use Rattle.intake.specs.declared.Part.{Part}
-use Rattle.intake.specs.declared.Part.the-variants.{From, To, Weight, Entry}
+use Rattle.intake.specs.declared.Part.the-variants.{From, To, Weight, Entry, Whole}
 use Rattle.intake.specs.declared.Strip.{Strip}
 
 -- ---- what is laid, by method
@@ -31,7 +32,11 @@ stripsOf h =
     let n = h .vertices in
     let m = h .edges in
     byMethod (h .method) []
-    (edgeStrips m m (2 * m) ∷ (strip 0 (n * n) 0 Entry ∷ []) ∷ edgeStrips m (m + 1) (2 * m + 1) ∷ [])
+    (edgeStrips m m (2 * m)
+    ∷ (strip 0 (n * n) 0 Entry ∷ [])
+    ∷ edgeStrips m (m + 1) (2 * m + 1)
+    ∷ (edgeStrips m m (2 * m) ++ (strip (3 * m + 3 * n + 8) 1 m Whole ∷ []))
+    ∷ [])
 
 -- ---- where a needed cell's first number comes from
 
@@ -62,12 +67,13 @@ sourceOf h k = sourceFrom (stripsOf h) k nothing
 abbrev pub orFar : ℤ → ℤ
 orFar z = cond (eqZ z noEdge) far z
 
--- A field of a word. `Entry` is method 2's weight, -1 as FAR.
+-- A field of a word. `Entry` is method 2's weight, -1 as FAR; `Whole`, all 64 bits in two's complement, is method 5's destination.
 abbrev pub partOf : Part → (word : ℕ) → ℤ
 partOf From w = pos (fromField w)
 partOf To w = pos (toField w)
 partOf Weight w = weightOf w
 partOf Entry w = orFar (weightOf w)
+partOf Whole w = signedOf 64 w
 
 -- What a source gives, from the words after the header.
 unfoldable pub laid : List ℕ → Source → ℤ
@@ -95,7 +101,7 @@ pub record StripFits (words cells : ℕ) (r : Strip) : Type 0 where
 
 -- The code has the strips of a method in an array, as long as the most of them, with empty ones after those that there are.
 abbrev pub mostStrips : ℕ
-mostStrips = 3
+mostStrips = 4
 
 abbrev pub empty : Strip
 empty = strip 0 0 0 From

@@ -2,6 +2,7 @@
 // Rests on requests, plans and fields.
 use plans::Header;
 ghost use mathlib.Core.Path.{_≡_};
+ghost use mathlib.Core.List.{[], _∷_, _++_};
 ghost use Prim.Native.Nat.{_≤_};
 ghost use lib.IntN.{pos};
 ghost use lib.ListN.{length, drop};
@@ -9,12 +10,13 @@ ghost use lib.Seq.{sets};
 ghost use Rattle.plans.specs.Plan.{Accepted, wordCountOf, cellsOf};
 ghost use Rattle.intake.specs.Intake.{strip, edgeStrips, stripsOf, partOf, copied, startingCells, stripNumbers, StripFits, padded};
 
-// A field of a word. Entry is method 2's weight, -1 as FAR.
+// A field of a word. Entry is method 2's weight, -1 as FAR; Whole, all 64 bits, is method 5's destination.
 pub enum Part {
     From,
     To,
     Weight,
     Entry,
+    Whole,
 }
 
 // `count` cells from `at` on, each with one part of one word, of the words from `word` on.
@@ -38,19 +40,20 @@ impl Strip {
     }
 }
 
-// The strips of m edges: from-vertices from cell 0 on, to-vertices and weights from these.
-fn edge_strips(m: usize, to: usize, weight: usize) -> [Strip; 3]
-    ensures { λ r. ⌜ r ≡ edgeStrips m to weight ⌝ }
+// The strips of m edges: from-vertices from cell 0 on, to-vertices and weights from these; and one more.
+fn edge_strips(m: usize, to: usize, weight: usize, last: Strip) -> [Strip; 4]
+    ensures { λ r. ⌜ r ≡ edgeStrips m to weight ++ (last ∷ []) ⌝ }
 {
     [
         Strip::new(0, m, 0, Part::From),
         Strip::new(to, m, 0, Part::To),
         Strip::new(weight, m, 0, Part::Weight),
+        last,
     ]
 }
 
 // The strips of the header's method, then empty ones.
-fn strips_of(h: Header) -> [Strip; 3]
+fn strips_of(h: Header) -> [Strip; 4]
     requires { ⌜ Accepted h ⌝ }
     ensures { λ r. ⌜ r ≡ padded (stripsOf h) ⌝ }
 {
@@ -59,9 +62,15 @@ fn strips_of(h: Header) -> [Strip; 3]
     let empty = Strip::new(0, 0, 0, Part::From);
     let method = h.method;
     match method {
-        1 => edge_strips(m, m, 2 * m),
-        2 => [Strip::new(0, n * n, 0, Part::Entry), empty, empty],
-        _ => edge_strips(m, m + 1, 2 * m + 1),
+        1 => edge_strips(m, m, 2 * m, empty),
+        2 => [Strip::new(0, n * n, 0, Part::Entry), empty, empty, empty],
+        3 => edge_strips(m, m + 1, 2 * m + 1, empty),
+        _ => edge_strips(
+            m,
+            m,
+            2 * m,
+            Strip::new(3 * m + 3 * n + 8, 1, m, Part::Whole),
+        ),
     }
 }
 
@@ -80,6 +89,7 @@ fn part_of(part: Part, word: u64) -> i64
                 value
             }
         }
+        Part::Whole => fields::signed(word, 64),
     }
 }
 
@@ -121,7 +131,7 @@ pub fn lay(h: Header, request: &[u64], cells: &mut [i64])
     clear(f.cells, cells);
     let strips = strips_of(h);
     let mut k: usize = 0;
-    while k < 3 {
+    while k < 4 {
         lay_strip(strips[k], request, cells);
         k += 1;
     }

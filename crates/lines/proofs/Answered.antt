@@ -1,8 +1,11 @@
 -- From what a run answers and leaves to the text of its outcome.
 -- Rests on Fits, answers' Told and requests' Numbers.
 use mathlib.Core.Path.{_≡_, refl, sym, ap, _∙_}
-use mathlib.Core.List.{List}
-use Prim.Native.Nat.{ℕ, _≤_}
+use mathlib.Core.Bool.{Bool, true, false, cond}
+use mathlib.Core.List.{List, []}
+use Prim.Native.Nat.{ℕ, _<_, _≤_}
+use borrow.Author.Tests.{ne-eqb}
+use lib.Dec.{eqb}
 use lib.IntN.{ℤ}
 use lib.ListN.{length, getD}
 use Rattle.answers.specs.declared.Refusal.{Refusal}
@@ -10,24 +13,33 @@ use Rattle.answers.specs.Refusal.{placeOf, placeShown}
 use Rattle.answers.specs.Told.{refused, Apart}
 use Rattle.answers.proofs.Told.{met-by}
 use Rattle.plans.specs.declared.Header.{Header}
-use Rattle.plans.specs.Plan.{distances, parents, byKind}
+use Rattle.plans.specs.Plan.{distances, parents, route, byKind}
 use Rattle.requests.specs.WithinLimits.{headerIn}
 use Rattle.requests.proofs.Numbers.{request-apart}
 use Rattle.engine.specs.declared.Answer.{Answer}
 use Rattle.engine.specs.declared.Answer.the-variants.{Ran, NegativeCycle, Refused}
 use Rattle.engine.specs.Run.{toldByRun, Lent, refusalOf, verdictOfRun, outcomeBy, outcome, Met}
 use Rattle.engine.proofs.Refused.{ran-values}
-use Rattle.lines.specs.Texts.{refusalText, toldText, textOf, toldLog, logText, Distinct}
+use Rattle.lines.specs.Texts.{routeText, refusalText, toldText, textOf, toldLog, logText, Distinct}
 use Rattle.lines.proofs.Fits as Fits
 use Rattle.lines.proofs.Fits.{log-fits}
 
-pub refused-text : (r : Refusal) → Apart r → (h : Header) (ds ps : List ℤ)
-    → refusalText (r .number) (placeShown (placeOf r)) ≡ toldText h (refused r) ds ps
-refused-text r a h ds ps = simp (a .0, a .1)
+pub refused-text : (r : Refusal) → Apart r → (h : Header) (ds ps rs : List ℤ)
+    → refusalText (r .number) (placeShown (placeOf r)) ≡ toldText h (refused r) ds ps rs
+refused-text r a h ds ps rs = simp (a .0, a .1)
 
 pub refused-log : (r : Refusal) → Apart r → (log : List ℕ)
     → refusalText (r .number) (placeShown (placeOf r)) ≡ toldLog (refused r) log
 refused-log r a log = simp (a .0, a .1)
+
+-- There is no line for a route but in method 5.
+pub no-route : (h : Header) → (h .method ≡ 5 → ⊥) → (rs : List ℤ) → routeText h rs ≡ []
+no-route h not-five rs =
+    rw (ne-eqb (h .method) 5 not-five) (or-none (eqb (h .method) 1) (or-none (eqb (h .method) 2) (or-none (eqb (h .method) 3) refl)))
+  where
+    or-none : (b : Bool) {t : List ℕ} → t ≡ [] → cond b [] t ≡ []
+    or-none true e = refl
+    or-none false e = e
 
 -- An answer that tells as the outcome does is told from a run where it is a refusal.
 told-distinct : (request : List ℕ) (lent : Lent) (a : Answer) → toldByRun a ≡ outcome request lent .answer → Distinct a
@@ -40,20 +52,20 @@ told-distinct request lent (Refused r) e =
     (refusalOf request lent) (sym e) in
     rw (sym (ap (λ t. t .number) same)) (request-apart request _ .holds q is)
 
-module _ (request : List ℕ) (lent : Lent) (a : Answer) (cells : List ℤ) (log : List ℕ) (ds ps : List ℤ)
-    (m : Met (outcome request lent) a cells log (byKind ds ps)) where
+module _ (request : List ℕ) (lent : Lent) (a : Answer) (cells : List ℤ) (log : List ℕ) (ds ps rs : List ℤ)
+    (m : Met (outcome request lent) a cells log (byKind ds ps rs)) where
   pub distinct : Distinct a
   distinct = told-distinct request lent a (m .answers)
 
-  pub few-vertices : (h : Header) → h ≡ headerIn request → toldByRun a .number ≡ 0 → h .vertices ≤ 32
+  pub few-vertices : (h : Header) → h ≡ headerIn request → toldByRun a .number ≡ 0 → (0 < h .vertices) × (h .vertices ≤ 32)
   few-vertices h e z = rw e (Fits.few-vertices request lent (ap (λ t. t .number) (sym (m .answers)) ∙ z))
 
   pub short-log : getD (toldByRun a .values) 1 0 ≤ length log
   short-log = rw (m .answers, m .log-left) (log-fits request lent)
 
-  pub answer-text : (h : Header) → h ≡ headerIn request → toldText h (toldByRun a) ds ps ≡ textOf request (outcome request lent)
+  pub answer-text : (h : Header) → h ≡ headerIn request → toldText h (toldByRun a) ds ps rs ≡ textOf request (outcome request lent)
   unfolding textOf
-  answer-text h e = rw (e, m .answers, ← m .results-left distances, ← m .results-left parents)
+  answer-text h e = rw (e, m .answers, ← m .results-left distances, ← m .results-left parents, ← m .results-left route)
 
   pub log-text : toldLog (toldByRun a) log ≡ logText (outcome request lent)
   unfolding logText

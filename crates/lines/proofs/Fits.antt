@@ -1,10 +1,10 @@
--- What an outcome tells is bounded: a run has at most 32 vertices, and its log is no longer than the lent one.
+-- What an outcome tells is bounded: a run has 1 to 32 vertices, and its log is no longer than the lent one.
 -- Rests on requests' WithinLimits and Numbers.
 use mathlib.Core.Path.{_≡_, refl}
 use mathlib.Core.Bool.{true≢false}
 use mathlib.Core.List.{List}
 use mathlib.Core.Option.{Option, none, some}
-use Prim.Native.Nat.{ℕ, zero, suc, _≤_}
+use Prim.Native.Nat.{ℕ, zero, suc, _<_, _≤_}
 use native.Mathlib.Omega.{arith}
 use lib.ListN.{length, getD, drop, length-append}
 use Rattle.answers.specs.declared.Refusal.{Refusal}
@@ -21,11 +21,11 @@ overwritten-length xs ys = omega (arith, length-append xs (drop (length xs) ys))
 
 module _ (request : List ℕ) (lent : Lent) where
   few-by : (met : Option Refusal) → refusalOf request lent ≡ met → Meets Apart met → outcomeBy met request lent .answer .number ≡ 0
-      → headerIn request .vertices ≤ 32
-  few-by none is a e = accepted-in request _ (within request _ .0 is) .vertices-few
+      → (0 < headerIn request .vertices) × (headerIn request .vertices ≤ 32)
+  few-by none is a e = let h = accepted-in request _ (within request _ .0 is) in (h .vertices-some, h .vertices-few)
   few-by (some r) is a e = absurd (true≢false (rw e at (a .holds r refl .0)))
 
-  pub few-vertices : outcome request lent .answer .number ≡ 0 → headerIn request .vertices ≤ 32
+  pub few-vertices : outcome request lent .answer .number ≡ 0 → (0 < headerIn request .vertices) × (headerIn request .vertices ≤ 32)
   unfolding outcome
   few-vertices = few-by (refusalOf request lent) refl (request-apart request _)
 

@@ -2,21 +2,21 @@
 -- Rests on the engine's outcomes and text's lines.
 use mathlib.Core.Bool.{cond, _||_}
 use mathlib.Core.List.{List, [], _∷_, _++_}
-use Prim.Native.Nat.{ℕ}
+use Prim.Native.Nat.{ℕ, _-_}
 use lib.Dec.{eqb}
 use lib.IntN.{ℤ, pos}
 use lib.ListN.{getD}
 use lib.Signed.{ltZ}
-use Rattle.text.specs.Text.{dash, decimal, signed, hexadecimal, lineOf, numbersLine}
+use Rattle.text.specs.Text.{blank, dash, newline, decimal, signed, hexadecimal, lineOf, numbersLine}
 use Rattle.answers.specs.declared.Place.{Place}
 use Rattle.answers.specs.declared.Place.the-variants.{At, Nowhere}
 use Rattle.answers.specs.Refusal.{placeShown}
 use Rattle.answers.specs.Told.{Told, Apart}
 use Rattle.machine.specs.Effect.{eqZ}
 use Rattle.plans.specs.Blocks.{flat}
-use Rattle.plans.specs.Limits.{far}
+use Rattle.plans.specs.Limits.{far, byMethod}
 use Rattle.plans.specs.declared.Header.{Header}
-use Rattle.plans.specs.Plan.{distances, parents}
+use Rattle.plans.specs.Plan.{distances, parents, route}
 use Rattle.requests.specs.WithinLimits.{headerIn}
 use Rattle.engine.specs.declared.Answer.{Answer}
 use Rattle.engine.specs.declared.Answer.the-variants.{Ran, NegativeCycle, Refused}
@@ -38,12 +38,29 @@ rowText v distance parent = lineOf (decimal v ∷ distanceText distance ∷ pare
 abbrev pub rowsText : (count : ℕ) (distances parents : List ℤ) → List ℕ
 rowsText count ds ps = flat count (λ v. rowText v (getD ds v (pos 0)) (getD ps v (pos 0)))
 
--- ---- `method yards lanes source rounds verdict`, then the rows. A run tells its rounds, log length and verdict.
+-- ---- `route` and the edges shown, without padding; in method 5 alone (document 02, ask 5)
 
-abbrev pub resultsText : Header → (values : List ℕ) (distances parents : List ℤ) → List ℕ
-resultsText h values ds ps =
+-- A blank and its number.
+abbrev pub stepText : (edge : ℤ) → List ℕ
+stepText z = cond (ltZ z (pos 0)) [] (blank ∷ signed z)
+
+-- For each of the first `count` places.
+abbrev pub stepsText : (count : ℕ) (route : List ℤ) → List ℕ
+stepsText count rs = flat count (λ k. stepText (getD rs k (pos 0)))
+
+-- "route"
+abbrev pub routeWord : List ℕ
+routeWord = 114 ∷ 111 ∷ 117 ∷ 116 ∷ 101 ∷ []
+
+abbrev pub routeText : Header → (route : List ℤ) → List ℕ
+routeText h rs = byMethod (h .method) [] ([] ∷ [] ∷ [] ∷ (routeWord ++ (stepsText (h .vertices - 1) rs ++ (newline ∷ []))) ∷ [])
+
+-- ---- `method yards lanes source rounds verdict`, then the rows and the route. A run tells its rounds, log length and verdict.
+
+abbrev pub resultsText : Header → (values : List ℕ) (distances parents route : List ℤ) → List ℕ
+resultsText h values ds ps rs =
     numbersLine (h .method ∷ h .vertices ∷ h .edges ∷ h .source ∷ getD values 0 0 ∷ getD values 2 0 ∷ [])
-    ++ rowsText (h .vertices) ds ps
+    ++ (rowsText (h .vertices) ds ps ++ routeText h rs)
 
 -- ---- `refused number place`, the place where there is one
 
@@ -66,12 +83,12 @@ Distinct (Ran r) = Unit {0}
 Distinct (NegativeCycle r) = Unit {0}
 Distinct (Refused r) = Apart r
 
-abbrev pub toldText : Header → Told → (distances parents : List ℤ) → List ℕ
-toldText h t ds ps =
-    cond (eqb (t .number) 0) (resultsText h (t .values) ds ps) (refusalText (t .number) (placeShown (t .place)))
+abbrev pub toldText : Header → Told → (distances parents route : List ℤ) → List ℕ
+toldText h t ds ps rs =
+    cond (eqb (t .number) 0) (resultsText h (t .values) ds ps rs) (refusalText (t .number) (placeShown (t .place)))
 
 unfoldable pub textOf : (request : List ℕ) → Outcome → List ℕ
-textOf request o = toldText (headerIn request) (o .answer) (o .results distances) (o .results parents)
+textOf request o = toldText (headerIn request) (o .answer) (o .results distances) (o .results parents) (o .results route)
 
 -- ---- a log, a word a line: of a request that ran, which met no refusal, or 12 alone
 

@@ -5,11 +5,11 @@ use engine::Answer;
 use engine::Report;
 use plans::Header;
 ghost use mathlib.Core.Path.{_≡_};
-ghost use Prim.Native.Nat.{_+_, _*_, _≤_};
+ghost use Prim.Native.Nat.{_+_, _*_, _<_, _≤_};
 ghost use lib.ListN.{length, getD};
 ghost use Rattle.text.specs.Text.{Put};
 ghost use Rattle.engine.specs.Run.{valuesOf, toldByRun};
-ghost use Rattle.lines.specs.Texts.{distanceText, parentText, rowText, rowsText, resultsText, refusalText, toldText, wordsText, toldLog, Distinct};
+ghost use Rattle.lines.specs.Texts.{distanceText, parentText, rowText, rowsText, stepText, stepsText, routeText, resultsText, refusalText, toldText, wordsText, toldLog, Distinct};
 
 // ---- an answer
 
@@ -66,14 +66,61 @@ pub fn put_rows(
     next
 }
 
-// `method yards lanes source rounds verdict`, and the rows.
-fn put_results(buffer: &mut [u8], h: Header, r: Report, distances: &[i64], parents: &[i64]) -> usize
-    requires { ⌜ (126 + 65 * h .vertices ≤ length (now buffer)) × (h .vertices ≤ length (now distances)) × (h .vertices ≤ length (now parents)) ⌝ }
-    ensures { λ n. ⌜ Put (126 + 65 * h .vertices) (resultsText h (valuesOf r) (now (distances .entry)) (now (parents .entry))) (now (buffer .entry)) (now (buffer .exit)) 0 n ⌝ }
+// A blank and the number of an edge; nothing for -1.
+fn put_step(buffer: &mut [u8], at: usize, edge: i64) -> usize
+    requires { ⌜ at + 22 ≤ length (now buffer) ⌝ }
+    ensures { λ r. ⌜ Put 22 (stepText edge) (now (buffer .entry)) (now (buffer .exit)) at r ⌝ }
+{
+    if edge < 0 {
+        return at;
+    }
+    let next = text::put_byte(buffer, at, b' ');
+    text::put_signed(buffer, next, edge)
+}
+
+// One for each of the first `count` places of a route.
+fn put_steps(buffer: &mut [u8], at: usize, count: usize, route: &[i64]) -> usize
+    requires { ⌜ (at + 22 * count ≤ length (now buffer)) × (count ≤ length (now route)) ⌝ }
+    ensures { λ r. ⌜ Put (22 * count) (stepsText count (now (route .entry))) (now (buffer .entry)) (now (buffer .exit)) at r ⌝ }
+{
+    let mut next = at;
+    let mut k: usize = 0;
+    while k < count {
+        next = put_step(buffer, next, route[k]);
+        k += 1;
+    }
+    next
+}
+
+// `route` and the edges shown; nothing but in method 5.
+pub fn put_route(buffer: &mut [u8], at: usize, h: Header, route: &[i64]) -> usize
+    requires { ⌜ (at + 688 ≤ length (now buffer)) × (0 < h .vertices) × (h .vertices ≤ 32) × (length (now route) ≡ 31) ⌝ }
+    ensures { λ r. ⌜ Put 688 (routeText h (now (route .entry))) (now (buffer .entry)) (now (buffer .exit)) at r ⌝ }
+{
+    if h.method != 5 {
+        return at;
+    }
+    let first = text::put_bytes(buffer, at, b"route");
+    let last = put_steps(buffer, first, h.vertices as usize - 1, route);
+    text::put_byte(buffer, last, b'\n')
+}
+
+// `method yards lanes source rounds verdict`, the rows, and the route.
+fn put_results(
+    buffer: &mut [u8],
+    h: Header,
+    r: Report,
+    distances: &[i64],
+    parents: &[i64],
+    route: &[i64],
+) -> usize
+    requires { ⌜ (814 + 65 * h .vertices ≤ length (now buffer)) × (0 < h .vertices) × (h .vertices ≤ 32) × (h .vertices ≤ length (now distances)) × (h .vertices ≤ length (now parents)) × (length (now route) ≡ 31) ⌝ }
+    ensures { λ n. ⌜ Put (814 + 65 * h .vertices) (resultsText h (valuesOf r) (now (distances .entry)) (now (parents .entry)) (now (route .entry))) (now (buffer .entry)) (now (buffer .exit)) 0 n ⌝ }
 {
     let line = [h.method, h.vertices, h.edges, h.source, r.rounds, r.verdict];
     let next = text::put_numbers(buffer, 0, &line);
-    put_rows(buffer, next, h.vertices as usize, distances, parents)
+    let last = put_rows(buffer, next, h.vertices as usize, distances, parents);
+    put_route(buffer, last, h, route)
 }
 
 // `refused number place`
@@ -95,12 +142,13 @@ pub fn put_answer(
     answer: Answer,
     distances: &[i64],
     parents: &[i64],
+    route: &[i64],
 ) -> usize
-    requires { ⌜ (2206 ≤ length (now buffer)) × (length (now distances) ≡ 32) × (length (now parents) ≡ 32) × (toldByRun answer .number ≡ 0 → h .vertices ≤ 32) × Distinct answer ⌝ }
-    ensures { λ n. ⌜ Put 2206 (toldText h (toldByRun answer) (now (distances .entry)) (now (parents .entry))) (now (buffer .entry)) (now (buffer .exit)) 0 n ⌝ }
+    requires { ⌜ (2894 ≤ length (now buffer)) × (length (now distances) ≡ 32) × (length (now parents) ≡ 32) × (length (now route) ≡ 31) × (toldByRun answer .number ≡ 0 → (0 < h .vertices) × (h .vertices ≤ 32)) × Distinct answer ⌝ }
+    ensures { λ n. ⌜ Put 2894 (toldText h (toldByRun answer) (now (distances .entry)) (now (parents .entry)) (now (route .entry))) (now (buffer .entry)) (now (buffer .exit)) 0 n ⌝ }
 {
     match answer {
-        Answer::Ran(report) => put_results(buffer, h, report, distances, parents),
+        Answer::Ran(report) => put_results(buffer, h, report, distances, parents, route),
         Answer::NegativeCycle(_) => put_refusal(buffer, 12, Place::Nowhere),
         Answer::Refused(refusal) => put_refusal(buffer, refusal.number, refusal.place_of()),
     }

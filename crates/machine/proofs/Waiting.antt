@@ -4,7 +4,7 @@ use mathlib.Core.Path.{_≡_, refl, ap, ap₂}
 use mathlib.Core.Option.{Option, none, some}
 use lib.IntN.{ℤ}
 use lib.Signed.{ltZ}
-use Rattle.machine.specs.Instruction.{Instruction, SET, COPY, ADD, LESS, EQUAL, BOTH, MOVEIF, OPEN, All}
+use Rattle.machine.specs.Instruction.{Instruction, SET, COPY, ADD, LESS, EQUAL, BOTH, MOVEIF, OPEN, addresses, All}
 use Rattle.machine.specs.Effect.{Effect, writes, nothing, effect, wrapAdd, bit, eqZ, both, pick}
 use Rattle.machine.specs.Depth.{reads, target}
 
@@ -33,3 +33,18 @@ module _ {A : Type 0} where
   target-alone (BOTH d a b) s = refl
   target-alone (MOVEIF d a b) s = refl
   target-alone (OPEN a) s = refl
+
+  -- It is one of those that the instruction names: what holds of these holds of it.
+  abbrev pub OfTarget : (P : A → Type 0) → Option A → Type 0
+  OfTarget P none = Unit {0}
+  OfTarget P (some d) = P d
+
+  pub target-named : (P : A → Type 0) (i : Instruction A) → All P (addresses i) → OfTarget P (target i)
+  target-named P (SET d c) h = h .0
+  target-named P (COPY d a) h = h .0
+  target-named P (ADD d a b) h = h .0
+  target-named P (LESS d a b) h = h .0
+  target-named P (EQUAL d a b) h = h .0
+  target-named P (BOTH d a b) h = h .0
+  target-named P (MOVEIF d a b) h = h .0
+  target-named P (OPEN a) h = tt

@@ -3,6 +3,7 @@ pub mod Steps
 pub mod Stores
 pub mod Banks
 pub mod Names
+pub mod Unnamed
 pub mod Bits
 pub mod Filled
 pub mod Words
@@ -11,6 +12,8 @@ pub mod Solved
 pub mod Edges
 pub mod Passes
 pub mod Method1
+pub mod Routes
+pub mod Method5
 pub mod Turns
 pub mod Method2
 pub mod Sweeps

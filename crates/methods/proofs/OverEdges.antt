@@ -1,20 +1,23 @@
 -- What methods over private edges share on named stores: the sums that they form, their instructions as steps, and the edges that intake has laid.
--- Rests on stores, names and bits.
+-- Rests on stores, names, bits and outlines.
 use mathlib.Core.Path.{_≡_}
 use mathlib.Core.Logic.{_⊎_, inl, inr, _≢_}
+use mathlib.Core.List.{List}
 use Prim.Native.Nat.{ℕ, _+_, _^_, _<_, _≤_}
 use native.Mathlib.Omega.{arith}
 use lib.IntN.{ℤ, pos, natAbs, _+ℤ_}
 use lib.Signed.{_<ℤ_}
 use Rattle.machine.specs.Instruction.{Instruction}
 use Rattle.machine.specs.Effect.{wrapAdd}
+use Rattle.plans.specs.Outline.{Outline, joined, start, instructions}
+use Rattle.plans.proofs.Outlines.{instructions-joined}
 use Rattle.graph.specs.Walk.{Edge, Below}
 use Rattle.graph.specs.BellmanFord.{network}
 use Rattle.graph.proofs.Int.{arithℤ, abs-add, le-abs}
 use Rattle.methods.specs.Edges.{Limited}
-use Rattle.methods.proofs.Steps.{Kind}
+use Rattle.methods.proofs.Steps.{Claim, Kind, Runs, runs-then}
 use Rattle.methods.proofs.Stores.{numbers}
-use Rattle.methods.proofs.Names.{Name, same, Store}
+use Rattle.methods.proofs.Names.{Name, same, pair, Store}
 use Rattle.methods.proofs.Bits.{sum-exact}
 
 -- ---- sums and steps
@@ -39,6 +42,16 @@ module _ (far limit : ℕ) where
   pub below-far : (x w : ℤ) → Sum x w → x ≢ pos far → (x +ℤ w) <ℤ pos far
   below-far x w (inl e, l) ne = absurd (ne e)
   below-far x w (inr h, l) ne = omega (arithℤ, le-abs (x +ℤ w), abs-add x w)
+
+  -- One outline, and then another.
+  module _ (n m source : ℕ) where
+    abbrev by-names : Outline → List (Instruction Name)
+    by-names o = instructions pair (pos far) n m source o start
+
+    pub joined-runs : (p q : Outline) (M R : Claim Store) (s : Store) → Runs steps (by-names p) M s
+        → ((t : Store) → M t → Runs steps (by-names q) R t) → Runs steps (by-names (joined p q)) R s
+    joined-runs p q M R s h then =
+        rw (instructions-joined pair (pos far) n m source start p q) (runs-then steps (by-names p) (by-names q) M R s h then)
 
 -- ---- the edges
 

@@ -20,7 +20,7 @@ module _ {I S : Type 0} (K : Kind I S) where
   Runs [] R s = R s
   Runs (i ∷ is) R s = K .needs i (Runs is R) s
 
-  runs-then : (is js : List I) (M R : Claim S) (s : S) → Runs is M s → ((t : S) → M t → Runs js R t) → Runs (is ++ js) R s
+  pub runs-then : (is js : List I) (M R : Claim S) (s : S) → Runs is M s → ((t : S) → M t → Runs js R t) → Runs (is ++ js) R s
   runs-then [] js M R s h then = then s h
   runs-then (i ∷ is) js M R s h then =
       K .needs-to i (Runs is M) (Runs (is ++ js) R) (λ t k. runs-then is js M R t k then) s h

@@ -3,3 +3,4 @@ pub mod Edges
 pub mod Method1
 pub mod Method2
 pub mod Method3
+pub mod Method5

@@ -14,17 +14,21 @@ pub record Room (far limit n m : ℕ) : Type 0 where
   pub deep : suc ((n - 1) * m) * limit < far
   pub fits : far + limit < 2 ^ 63
 
-abbrev pub places : (n m : ℕ) → Places
-places n m =
+-- By a place for each name: method 5 has others, and more names.
+abbrev pub placesBy : (count : ℕ) (place : ℕ × ℕ → ℕ) → Places
+placesBy count place =
     record {
-      count = cellCount n m;
-      from = λ i. cell (starts n m) (from i);
-      to = λ i. cell (starts n m) (to i);
-      weight = λ i. cell (starts n m) (weight i);
-      dist = λ v. cell (starts n m) (D v);
-      parent = λ v. cell (starts n m) (P v);
-      verdict = cell (starts n m) (X 7);
+      count = count;
+      from = λ i. place (from i);
+      to = λ i. place (to i);
+      weight = λ i. place (weight i);
+      dist = λ v. place (D v);
+      parent = λ v. place (P v);
+      verdict = place (X 7);
     }
+
+abbrev pub places : (n m : ℕ) → Places
+places n m = placesBy (cellCount n m) (cell (starts n m))
 
 abbrev pub plan : (far n m source : ℕ) → List (Instruction ℕ)
 plan far n m source = Method1.plan (address (starts n m)) (pos far) n m source

@@ -13,12 +13,13 @@ use Rattle.planner.specs.declared.Figures.{Figures}
 use Rattle.planner.specs.Figures.{cellIn, inCode, figuresOf, Figured}
 
 -- The last method.
-pub method-three : (h : Header) → Accepted h → (h .method ≡ 1 → ⊥) → (h .method ≡ 2 → ⊥) → h .method ≡ 3
-method-three =
-    by-method (λ h. (h .method ≡ 1 → ⊥) → (h .method ≡ 2 → ⊥) → h .method ≡ 3)
-    (λ n m source a one two. absurd (one refl))
-    (λ n source a one two. absurd (two refl))
-    (λ n m source a one two. refl)
+pub method-five : (h : Header) → Accepted h → (h .method ≡ 1 → ⊥) → (h .method ≡ 2 → ⊥) → (h .method ≡ 3 → ⊥) → h .method ≡ 5
+method-five =
+    by-method (λ h. (h .method ≡ 1 → ⊥) → (h .method ≡ 2 → ⊥) → (h .method ≡ 3 → ⊥) → h .method ≡ 5)
+    (λ n m source a one two three. absurd (one refl))
+    (λ n source a one two three. absurd (two refl))
+    (λ n m source a one two three. absurd (three refl))
+    (λ n m source a one two three. refl)
 
 -- ---- the length's parts
 
@@ -32,12 +33,16 @@ pub record Sizes (n m : ℕ) : Type 0 where
   pub words1 : m * (8 * (n * n) + 3 * n - 1) ≤ 1060736
   pub rounds1 : m * (n * n + 9 * n - 9) ≤ 166784
   pub words3 : m * (3 * (n * n) + 10 * n - 1) ≤ 434048
+  pub words5 : m * (8 * (n * n) + 5 * n) ≤ 1069056
+  pub turns5 : (n - 1) * (n + 9) ≤ 1271
+  pub rounds5 : m * ((n - 1) * (n + 9)) ≤ 162688
 
 pub sizes : (h : Header) → Accepted h → Sizes (h .vertices) (h .edges)
 sizes h a =
     let few = a .vertices-few in
     let edges-few = edges-small h a in
     let square = square-le (h .vertices) few in
+    let turns5 = mul-le-mul {n₁ = h .vertices - 1} {m₁ = h .vertices + 9} {n₂ = 31} {m₂ = 41} (omega arith) (omega arith) in
     record {
       few = few;
       edges-few = edges-few;
@@ -47,6 +52,9 @@ sizes h a =
       words1 = edges-le (h .edges) edges-few _ 8287 (omega arith);
       rounds1 = edges-le (h .edges) edges-few _ 1303 (omega arith);
       words3 = edges-le (h .edges) edges-few _ 3391 (omega arith);
+      words5 = edges-le (h .edges) edges-few _ 8352 (omega arith);
+      turns5 = turns5;
+      rounds5 = edges-le (h .edges) edges-few _ 1271 turns5;
     }
 
 -- ---- the figures, one by one
@@ -64,5 +72,5 @@ figured h f e =
       cells-are = refl;
       length-is = refl;
       verdict-is = found (verdictCell h);
-      results-are = each-kind _ refl refl;
+      results-are = each-kind _ refl refl refl;
     })

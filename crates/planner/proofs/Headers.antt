@@ -1,13 +1,14 @@
 -- Which refusal a header meets, by the ways out of `check_header`; a header that meets none is within the limits.
 -- Rests on answers' Unmet and Meets.
-use mathlib.Core.Path.{_≡_, refl, sym}
+use mathlib.Core.Path.{_≡_, sym}
 use mathlib.Core.Bool.{Bool, false, true, not}
 use mathlib.Core.Option.{none, some}
-use Prim.Native.Nat.{ℕ, zero, suc, _<_, _≤_}
+use Prim.Native.Nat.{ℕ, _<_, _≤_}
 use native.Mathlib.Omega.{arith}
-use lib.Dec.{ltb, ltb→lt, leb→le}
-use borrow.Author.Tests.{lt-ltb, le-ltb, le-leb, lt-leb, not-true, not-false}
+use lib.Dec.{eqb, ltb, ltb→lt, leb→le}
+use borrow.Author.Tests.{ne-eqb, eqb-true, lt-ltb, le-ltb, le-leb, lt-leb, not-true, not-false}
 use mir.Facts.{and-yes}
+use Rattle.fields.proofs.Test.{by-test}
 use Rattle.answers.specs.declared.Refusal.{Refusal}
 use Rattle.answers.specs.Refusal.{Method, Vertices, Edges, Source, need}
 use Rattle.answers.proofs.Unmet.{first-none}
@@ -18,20 +19,12 @@ use Rattle.plans.specs.Plan.{Accepted}
 use Rattle.planner.specs.Refusal.{headerTests, headerRefusal}
 
 -- No other method is known.
-pub no-other : (method : ℕ) → (method ≡ 1 → ⊥) → (method ≡ 2 → ⊥) → (method ≡ 3 → ⊥) → false ≡ knownMethod method
-no-other zero a b c = refl
-no-other (suc zero) a b c = absurd (a refl)
-no-other (suc (suc zero)) a b c = absurd (b refl)
-no-other (suc (suc (suc zero))) a b c = absurd (c refl)
-no-other (suc (suc (suc (suc _)))) a b c = refl
+pub no-other : (method : ℕ) → (method ≡ 1 → ⊥) → (method ≡ 2 → ⊥) → (method ≡ 3 → ⊥) → (method ≡ 5 → ⊥) → false ≡ knownMethod method
+no-other method a b c d = rw (ne-eqb method 1 a, ne-eqb method 2 b, ne-eqb method 3 c, ne-eqb method 5 d)
 
--- Only methods 1 and 3 have edges.
-pub no-edges : (method : ℕ) → (method ≡ 1 → ⊥) → (method ≡ 3 → ⊥) → 0 ≡ mostEdges method
-no-edges zero a c = refl
-no-edges (suc zero) a c = absurd (a refl)
-no-edges (suc (suc zero)) a c = refl
-no-edges (suc (suc (suc zero))) a c = absurd (c refl)
-no-edges (suc (suc (suc (suc _)))) a c = refl
+-- Only methods 1, 3 and 5 have edges.
+pub no-edges : (method : ℕ) → (method ≡ 1 → ⊥) → (method ≡ 3 → ⊥) → (method ≡ 5 → ⊥) → 0 ≡ mostEdges method
+no-edges method a c d = by-test (eqb method 2) (λ e. rw (eqb-true method 2 e)) (λ e. rw (ne-eqb method 1 a, e, ne-eqb method 3 c, ne-eqb method 5 d))
 
 -- k is what `known` answers of the method.
 module _ (h : Header) (k : Bool) (is : k ≡ knownMethod (h .method)) where

@@ -58,6 +58,14 @@ pub record Facts : Type 0 where
       × (headerMeets 0x1000200008000020 ≡ 4)
       × (headerMeets 0x2000200000000020 ≡ 4)
       × (headerMeets 0x3000200008000020 ≡ 4)
+  -- Ask 5: "1 admits 5; 3 and 4 as method 1".
+  pub ends5 : (headerMeets 0x5000010000000000 ≡ 0)
+      × (headerMeets 0x500020000800001F ≡ 0)
+      × (headerMeets 0x6000010000000000 ≡ 1)
+      × (headerMeets 0x5000000000000000 ≡ 2)
+      × (headerMeets 0x5000210000000000 ≡ 2)
+      × (headerMeets 0x5000200008100000 ≡ 3)
+      × (headerMeets 0x5000200008000020 ≡ 4)
   -- "Order: 1 to 8 by number": headers that would meet two neighbours, or all four, meet the lower.
   pub order : (headerMeets 0x0000000008100000 ≡ 1)
       × (headerMeets 0x0000000000000000 ≡ 1)
@@ -80,10 +88,12 @@ pub record Facts : Type 0 where
       × (writingAnswered (0x2000010000000000 ∷ []) (replicate 20 9) ≡ byNumber 7)
       × (bufferLeft (0x4000010000000000 ∷ []) (replicate 20 9) ≡ replicate 20 9)
       × (writingAnswered (0x3000010000000000 ∷ []) (replicate 10 9) ≡ byNumber 7)
+      × (writingAnswered (0x5000010000000000 ∷ []) (replicate 8 9) ≡ byNumber 7)
   -- "and answers its length": a buffer that has room for it, and more. The rest of it stays; a second header word is not looked at.
   pub writing : (writingAnswered (0x1000010000000000 ∷ []) (replicate 7 9) ≡ record { number = 0; place = none; values = 7 ∷ [] })
       × (writingAnswered (0x2000010000000000 ∷ []) (replicate 21 9) ≡ record { number = 0; place = none; values = 21 ∷ [] })
       × (writingAnswered (0x3000010000000000 ∷ []) (replicate 11 9) ≡ record { number = 0; place = none; values = 11 ∷ [] })
+      × (writingAnswered (0x5000010000000000 ∷ []) (replicate 9 9) ≡ record { number = 0; place = none; values = 9 ∷ [] })
       × (writingAnswered (0x1000010000000000 ∷ 0 ∷ []) (replicate 9 9) ≡ record { number = 0; place = none; values = 7 ∷ [] })
       × (bufferLeft (0x1000010000000000 ∷ 0 ∷ []) (replicate 9 9)
       ≡ smallestPlan ++ (9 ∷ 9 ∷ []))

@@ -4,7 +4,7 @@ use mathlib.Core.Option.{Option, none, some}
 use Prim.Native.Nat.{ℕ}
 use Rattle.plans.specs.declared.Header.{Header}
 use Rattle.plans.specs.declared.Span.{Span}
-use Rattle.plans.specs.Plan.{wordCountOf, cellsOf, lengthOf, verdictCell, Kind, distances, parents, byKind, resultsOf}
+use Rattle.plans.specs.Plan.{wordCountOf, cellsOf, lengthOf, verdictCell, Kind, distances, parents, route, byKind, resultsOf}
 use Rattle.planner.specs.declared.VerdictCell.{VerdictCell}
 use Rattle.planner.specs.declared.VerdictCell.the-variants.{At, Nothing}
 use Rattle.planner.specs.declared.Figures.{Figures}
@@ -30,11 +30,12 @@ figuresOf h =
       verdict = inCode (verdictCell h);
       distances = resultsOf h distances;
       parents = resultsOf h parents;
+      route = resultsOf h route;
     }
 
 -- The cells of a kind of results.
 abbrev pub spanIn : Figures → Kind → Span
-spanIn f = byKind (f .distances) (f .parents)
+spanIn f = byKind (f .distances) (f .parents) (f .route)
 
 -- The same, one by one.
 pub record Figured (h : Header) (f : Figures) : Type 0 where

@@ -1,6 +1,6 @@
 -- What writing a plan answers, and what the buffer then holds. Rests on plans and refusals.
 use mathlib.Core.Path.{_≡_}
-use mathlib.Core.List.{List, [], _∷_}
+use mathlib.Core.List.{List, [], _∷_, map}
 use mathlib.Core.Option.{Option, none, some}
 use Prim.Native.Nat.{ℕ}
 use lib.Dec.{leb}
@@ -9,6 +9,12 @@ use Rattle.answers.specs.declared.Refusal.{Refusal}
 use Rattle.answers.specs.Refusal.{Method, Log, need, orElse}
 use Rattle.answers.specs.Told.{Told, refused}
 use Rattle.answers.specs.Buffers.{overwritten}
+use Rattle.machine.specs.Word.{encode}
+use Rattle.plans.specs.declared.Header.{Header}
+use Rattle.plans.specs.Limits.{far}
+use Rattle.plans.specs.Regions.{address}
+use Rattle.plans.specs.Outline.{start, instructions}
+use Rattle.plans.specs.Method1 as Method1
 use Rattle.plans.specs.Plan.{headerOf, planOf}
 use Rattle.planner.specs.declared.Written.{Written}
 use Rattle.planner.specs.declared.Written.the-variants.{Length, Refused}
@@ -36,6 +42,13 @@ bufferOf (some r) plan buffer = buffer
 -- The plan of a header's first word.
 abbrev pub planWords : (header : List ℕ) → List ℕ
 planWords header = planOf (headerOf (getD header 0 0))
+
+-- The words of method 1's opening, passes and check, for a header's counts and source; method 5's plan has them too.
+unfoldable pub solveWords : Header → List ℕ
+solveWords h =
+    let n = h .vertices in
+    let m = h .edges in
+    map encode (instructions (address (Method1.starts n m)) far n m (h .source) Method1.solve start)
 
 pub record WrittenPlan (header buffer : List ℕ) (answer : Written) (after : List ℕ) : Type 0 where
   pub answers : toldByWriting answer ≡ answerOf (planRefusal header (length buffer)) (planWords header)

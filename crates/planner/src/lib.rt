@@ -3,6 +3,7 @@
 mod method1;
 mod method2;
 mod method3;
+mod method5;
 
 use answers::Checked;
 use answers::Refusal;
@@ -35,7 +36,11 @@ pub struct Figures {
     pub verdict: VerdictCell,
     pub distances: Span,
     pub parents: Span,
+    pub route: Span,
 }
+
+// The cells of a kind of results that a method does not give.
+const NONE_GIVEN: Span = Span { first: 0, count: 0 };
 
 // What writing a plan answers: its length, or a refusal.
 pub enum Written {
@@ -63,6 +68,7 @@ fn known(method: u64) -> bool
         1 => true,
         2 => true,
         3 => true,
+        5 => true,
         _ => false,
     }
 }
@@ -73,6 +79,7 @@ fn most_edges(method: u64) -> u64
     match method {
         1 => plans::MOST_EDGES,
         3 => plans::MOST_EDGES,
+        5 => plans::MOST_EDGES,
         _ => 0,
     }
 }
@@ -108,7 +115,8 @@ pub fn figures_of(h: Header) -> Figures
     match method {
         1 => method1::figures(h),
         2 => method2::figures(h),
-        _ => method3::figures(h),
+        3 => method3::figures(h),
+        _ => method5::figures(h),
     }
 }
 
@@ -121,7 +129,8 @@ pub fn rounds_of(h: Header) -> u64
     match method {
         1 => method1::rounds(h),
         2 => method2::rounds(h),
-        _ => method3::rounds(h),
+        3 => method3::rounds(h),
+        _ => method5::rounds(h),
     }
 }
 
@@ -134,7 +143,8 @@ fn write_words(h: Header, plan: &mut [u64]) -> usize
     match method {
         1 => method1::write(h, plan),
         2 => method2::write(h, plan),
-        _ => method3::write(h, plan),
+        3 => method3::write(h, plan),
+        _ => method5::write(h, plan),
     }
 }
 

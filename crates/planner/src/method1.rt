@@ -1,6 +1,7 @@
 // Method 1: its figures, its plan as lines, in document 01's order, and where its regions begin.
 // Rests on rows and tables.
 use crate::Figures;
+use crate::NONE_GIVEN;
 use crate::VerdictCell;
 use plans::Header;
 use plans::Span;
@@ -18,7 +19,6 @@ use rows::I;
 use rows::LESS;
 use rows::MINUS_ONE;
 use rows::MOVEIF;
-use rows::OPEN;
 use rows::OTHERS;
 use rows::RUN;
 use rows::SET;
@@ -29,8 +29,9 @@ ghost use mathlib.Core.Path.{_≡_};
 ghost use Prim.Native.Nat.{_≤_};
 ghost use lib.ListN.{length, drop};
 ghost use Rattle.plans.specs.Plan.{Accepted, planOf, lengthOf, roundsOfPlan};
-ghost use Rattle.tables.specs.Writing.{Wrote};
+ghost use Rattle.tables.specs.Writing.{RoomAt, Wrote};
 ghost use Rattle.planner.specs.Figures.{figuresOf};
+ghost use Rattle.planner.specs.Written.{solveWords};
 
 pub fn figures(h: Header) -> Figures
     requires { ⌜ Accepted h × (h .method ≡ 1) ⌝ }
@@ -50,6 +51,7 @@ pub fn figures(h: Header) -> Figures
             first: d + n,
             count: n,
         },
+        route: NONE_GIVEN,
     }
 }
 
@@ -65,21 +67,22 @@ pub fn rounds(h: Header) -> u64
     m * (n * n + 9 * n - 9) + n + 16
 }
 
-const FROM: u64 = 4 << 11;
+pub const FROM: u64 = 4 << 11;
 
-const TO: u64 = 5 << 11;
+pub const TO: u64 = 5 << 11;
 
-const WEIGHT: u64 = 6 << 11;
+pub const WEIGHT: u64 = 6 << 11;
 
-const D: u64 = 7 << 11;
+pub const D: u64 = 7 << 11;
 
-const P: u64 = 8 << 11;
+pub const P: u64 = 8 << 11;
 
-const Y: u64 = 9 << 11;
+pub const Y: u64 = 9 << 11;
 
-const X: u64 = 10 << 11;
+pub const X: u64 = 10 << 11;
 
-const LINES: [u64; 36] = [
+// The opening, the passes and the check, which method 5 shares.
+const SOLVE: [u64; 35] = [
     // For each v, SET Y+v to v, SET D+v to 0 if v is the source, else FAR, SET P+v to -1.
     RUN | VERTICES << A_ | 3,
     SET | Y + V << D_ | V << A_,
@@ -119,19 +122,27 @@ const LINES: [u64; 36] = [
     BOTH | X + 6 << D_ | X + 6 << A_ | X + 4,
     BOTH | X + 6 << D_ | X + 6 << A_ | X + 5,
     MOVEIF | X + 7 << D_ | X + 6 << A_ | X + 6,
-    // The verdict.
-    OPEN | X + 7 << A_,
 ];
 
-// The plan's words, written after its header word; the plan's length.
-pub fn write(h: Header, plan: &mut [u64]) -> usize
-    requires { ⌜ Accepted h × (h .method ≡ 1) × (lengthOf h ≤ length (now plan)) ⌝ }
-    ensures { λ r. ⌜ Wrote (drop 1 (planOf h)) (now (plan .entry)) (now (plan .exit)) 1 r ⌝ }
+// The words of the opening, the passes and the check, written after a plan's header word; the place after them.
+pub fn write_solve(h: Header, plan: &mut [u64]) -> usize
+    requires { ⌜ Accepted h × RoomAt (solveWords h) (now plan) 1 ⌝ }
+    ensures { λ r. ⌜ Wrote (solveWords h) (now (plan .entry)) (now (plan .exit)) 1 r ⌝ }
 {
     let n = h.vertices;
     let m = h.edges;
     let d = 3 * m;
     let env = [0, n, m, n - 1, 0, m, 2 * m, d, d + n, d + 2 * n, d + 3 * n];
-    let mut table = [0u64; 216];
-    tables::write(&LINES, n, &env, h.source, &mut table, plan, 1)
+    let mut table = [0u64; 210];
+    tables::write(&SOLVE, n, &env, h.source, &mut table, plan, 1)
+}
+
+// The plan's words, written after its header word, the last one OPEN X+7, the verdict; the plan's length.
+pub fn write(h: Header, plan: &mut [u64]) -> usize
+    requires { ⌜ Accepted h × (h .method ≡ 1) × (lengthOf h ≤ length (now plan)) ⌝ }
+    ensures { λ r. ⌜ Wrote (drop 1 (planOf h)) (now (plan .entry)) (now (plan .exit)) 1 r ⌝ }
+{
+    let next = write_solve(h, plan);
+    plan[next] = machine::pack(machine::OPEN, 0, 3 * h.edges + 3 * h.vertices + 7, 0);
+    next + 1
 }

@@ -1,6 +1,7 @@
 // Method 2: its figures, its plan as lines, in document 01's order, and where its regions begin.
 // Rests on rows and tables.
 use crate::Figures;
+use crate::NONE_GIVEN;
 use crate::VerdictCell;
 use plans::Header;
 use plans::Span;
@@ -46,6 +47,7 @@ pub fn figures(h: Header) -> Figures
             first: d + n,
             count: n,
         },
+        route: NONE_GIVEN,
     }
 }
 

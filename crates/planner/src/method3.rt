@@ -1,6 +1,7 @@
 // Method 3: its figures, its plan as lines, in document 02's order, and where its regions begin.
 // Rests on rows and tables.
 use crate::Figures;
+use crate::NONE_GIVEN;
 use crate::VerdictCell;
 use plans::Header;
 use plans::Span;
@@ -50,6 +51,7 @@ pub fn figures(h: Header) -> Figures
             first: d + n,
             count: n,
         },
+        route: NONE_GIVEN,
     }
 }
 

@@ -22,6 +22,7 @@ use Rattle.plans.specs.Outline.{fixed, at, after, entry, small, minus-on
 use Rattle.plans.specs.Method1 as Method1
 use Rattle.plans.specs.Method2 as Method2
 use Rattle.plans.specs.Method3 as Method3
+use Rattle.plans.specs.Method5 as Method5
 use Rattle.plans.specs.Plan.{Accepted, instructionsOf, planOf, cellsOf, Kind, resultsOf}
 use Rattle.plans.proofs.Blocks.{all-both, all-map}
 use Rattle.plans.proofs.Outlines.{Under, once, under, Each, all-lines}
@@ -102,7 +103,7 @@ Below count = Keeps (λ a. a < count) (λ z. mag z < 2 ^ 39)
 
 -- A call of `search` takes so many steps only: one for each of the outline's first parts.
 pub below-plan : (h : Header) → Accepted h → (count : ℕ) → cellsOf h ≤ count → All (Below count) (instructionsOf h)
-unfolding instructionsOf cellsOf Method1.plan Method2.plan Method3.plan
+unfolding instructionsOf cellsOf Method1.plan Method2.plan Method3.plan Method5.plan
 below-plan =
     by-method (λ h. (count : ℕ) → cellsOf h ≤ count → All (Below count) (instructionsOf h))
     (λ n m source a count l.
@@ -113,6 +114,9 @@ below-plan =
     (λ n m source a count l.
     keeps _ _ (address (Method3.starts n m)) far n m source Method3.outline
     (search arith, (search arith, (search arith, (search arith, search arith)))))
+    (λ n m source a count l.
+    keeps _ _ (address (Method5.starts n m)) far n m source Method5.outline
+    (search arith, (search arith, (search arith, (search arith, (search arith, (search arith, search arith)))))))
 
 -- No plan needs more than the largest one of method 3.
 pub cells-few : (h : Header) → Accepted h → cellsOf h ≤ 8874
@@ -121,14 +125,16 @@ cells-few =
     by-method (λ h. cellsOf h ≤ 8874) (λ n m source a. omega arith)
     (λ n source a. omega (arith, square-le n (omega arith)))
     (λ n m source a. omega (arith, edges-le m (a .edges-few) n 32 (a .vertices-few), a .vertices-few, a .edges-few))
+    (λ n m source a. omega (arith, a .vertices-few, a .edges-few))
 
 pub results-inside : (h : Header) → Accepted h → (k : Kind) → resultsOf h k .first + resultsOf h k .count ≤ cellsOf h
 unfolding resultsOf cellsOf
 results-inside =
     by-method (λ h. (k : Kind) → resultsOf h k .first + resultsOf h k .count ≤ cellsOf h)
-    (λ n m source a. each-kind _ (omega arith) (omega arith))
-    (λ n source a. each-kind _ (omega arith) (omega arith))
-    (λ n m source a. each-kind _ (omega arith) (omega arith))
+    (λ n m source a. each-kind _ (omega arith) (omega arith) (omega arith))
+    (λ n source a. each-kind _ (omega arith) (omega arith) (omega arith))
+    (λ n m source a. each-kind _ (omega arith) (omega arith) (omega arith))
+    (λ n m source a. each-kind _ (omega arith) (omega arith) (omega (arith, a .vertices-some)))
 
 pub fits-plan : (h : Header) → Accepted h → All Fits (instructionsOf h)
 fits-plan h a = below-plan h a (2 ^ 20) (omega (arith, cells-few h a))

@@ -1,35 +1,43 @@
 -- Accepted headers, method by method: what holds of each method's headers holds of every accepted one. And how long a header's plan is.
 -- Rests on the definitions alone.
 use mathlib.Core.Path.{_≡_}
-use mathlib.Core.Bool.{Bool, true, false}
 use mathlib.Core.List.{List, [], _∷_}
 use Prim.Native.Nat.{ℕ, zero, suc, _+_, _^_, _<_, _≤_}
 use native.Mathlib.Omega.{arith}
-use lib.Dec.{T}
-use lib.ListN.{length, getD, length-map}
+use borrow.Author.Tests.{eqb-true}
+use lib.Dec.{T, eqb}
+use lib.ListN.{length, length-map}
+use Rattle.fields.proofs.Test.{by-test}
 use Rattle.machine.specs.Instruction.{All}
 use Rattle.machine.specs.Word.{encode}
 use Rattle.plans.specs.declared.Header.{Header}
-use Rattle.plans.specs.Limits.{far}
+use Rattle.plans.specs.Limits.{far, isIn, found, methods, byMethod}
 use Rattle.plans.specs.Regions.{address}
 use Rattle.plans.specs.Method1 as Method1
 use Rattle.plans.specs.Method2 as Method2
 use Rattle.plans.specs.Method3 as Method3
+use Rattle.plans.specs.Method5 as Method5
 use Rattle.plans.specs.Plan.{Accepted, instructionsOf, planOf}
 
 -- ---- by method
 
--- A mark of a row stands at a place of the row.
-marked-below : (row : List Bool) (k : ℕ) → T (getD row k false) → k < length row
-marked-below [] k t = absurd t
-marked-below (b ∷ row) zero t = omega arith
-marked-below (b ∷ row) (suc k) t = omega (arith, marked-below row k t)
+-- What holds of each of some numbers holds of one of them.
+module _ (Q : ℕ → Type 0) where
+  of-one : (xs : List ℕ) → All Q xs → (k : ℕ) → T (isIn xs k) → Q k
+  of-one [] all k t = absurd t
+  of-one (x ∷ xs) all k t =
+      by-test (eqb k x) (λ e. rw (eqb-true k x e) (all .0)) (λ e. of-one xs (all .1) k (rw e at t))
 
--- What bounds a row bounds what is looked up in it.
-most-in : (most : ℕ) (row : List ℕ) → All (λ x. x ≤ most) row → (k : ℕ) → getD row k 0 ≤ most
-most-in most [] a k = omega arith
-most-in most (x ∷ row) a zero = a .0
-most-in most (x ∷ row) a (suc k) = most-in most row (a .1) k
+-- What holds of each of a row, and of the other, holds of what a method has of it.
+module _ {X : Type 0} (Q : X → Type 0) where
+  found-one : (xs : List ℕ) (row : List X) → All Q row → (k : ℕ) (other : X) → Q other → Q (found xs k other row)
+  found-one [] row all k other q = q
+  found-one (x ∷ xs) [] all k other q = q
+  found-one (x ∷ xs) (y ∷ row) all k other q =
+      by-test (eqb k x) (λ e. rw e (all .0)) (λ e. rw e (found-one xs row (all .1) k other q))
+
+  pub of-row : (row : List X) → All Q row → (method : ℕ) (other : X) → Q other → Q (byMethod method other row)
+  of-row = found-one methods
 
 abbrev pub header : (method vertices edges source : ℕ) → Header
 header method vertices edges source =
@@ -38,27 +46,29 @@ header method vertices edges source =
 module _ (P : Header → Type 0)
     (one : (n m source : ℕ) → Accepted (header 1 n m source) → P (header 1 n m source))
     (two : (n source : ℕ) → Accepted (header 2 n 0 source) → P (header 2 n 0 source))
-    (three : (n m source : ℕ) → Accepted (header 3 n m source) → P (header 3 n m source)) where
-  at-method : (method n m source : ℕ) → Accepted (header method n m source) → P (header method n m source)
-  at-method zero n m source a = absurd (a .known)
-  at-method (suc zero) n m source a = one n m source a
-  at-method (suc (suc zero)) n zero source a = two n source a
-  at-method (suc (suc zero)) n (suc m) source a = let no : ⊥ = omega arith in absurd no
-  at-method (suc (suc (suc zero))) n m source a = three n m source a
-  at-method (suc (suc (suc (suc k)))) n m source a = absurd (a .known)
+    (three : (n m source : ℕ) → Accepted (header 3 n m source) → P (header 3 n m source))
+    (five : (n m source : ℕ) → Accepted (header 5 n m source) → P (header 5 n m source)) where
+  -- Method 2 has no edges.
+  at-two : (n m source : ℕ) → Accepted (header 2 n m source) → P (header 2 n m source)
+  at-two n zero source a = two n source a
+  at-two n (suc m) source a = let no : ⊥ = omega (arith, a .edges-few) in absurd no
 
   pub by-method : (h : Header) → Accepted h → P h
-  by-method h a = at-method (h .method) (h .vertices) (h .edges) (h .source) a
+  by-method h a =
+      of-one (λ method. (n m source : ℕ) → Accepted (header method n m source) → P (header method n m source)) methods
+      (one, (at-two, (three, (five, tt)))) (h .method) (a .known) (h .vertices) (h .edges) (h .source) a
 
 pub edges-small : (h : Header) → Accepted h → h .edges ≤ 128
-edges-small h a = omega (arith, a .edges-few, most-in 128 (0 ∷ 128 ∷ 0 ∷ 128 ∷ []) (search arith) (h .method))
+edges-small =
+    by-method (λ h. h .edges ≤ 128) (λ n m source a. omega (arith, a .edges-few)) (λ n source a. omega arith)
+    (λ n m source a. omega (arith, a .edges-few)) (λ n m source a. omega (arith, a .edges-few))
 
 pub fields-small : (h : Header) → Accepted h
     → (h .method < 2 ^ 4) × (h .vertices < 2 ^ 20) × (h .edges < 2 ^ 20) × (h .source < 2 ^ 20)
 fields-small h a =
     omega (
       arith,
-      marked-below (false ∷ true ∷ true ∷ true ∷ []) (h .method) (a .known),
+      of-one (λ method. method < 2 ^ 4) methods (search arith) (h .method) (a .known),
       a .vertices-few,
       edges-small h a,
       a .source-there,
@@ -83,6 +93,12 @@ module _ (h : Header) where
       ≡ Method3.plan (address (Method3.starts (h .vertices) (h .edges))) far (h .vertices) (h .edges) (h .source)
   unfolding instructionsOf
   instructions-three e = rw e
+
+  pub instructions-five : h .method ≡ 5
+      → instructionsOf h
+      ≡ Method5.plan (address (Method5.starts (h .vertices) (h .edges))) far (h .vertices) (h .edges) (h .source)
+  unfolding instructionsOf
+  instructions-five e = rw e
 
   pub plan-length : length (planOf h) ≡ length (instructionsOf h) + 1
   unfolding planOf

@@ -1,4 +1,5 @@
--- Outlines, for every method: what holds of each line holds of the whole plan; a plan at other addresses; a plan that ends in a line.
+-- Outlines, for every method: what holds of each line holds of the whole plan; a plan at other addresses; one outline and then another; a plan that
+-- ends in a line.
 -- Rests on blocks.
 use mathlib.Core.Path.{_≡_, refl, sym, ap, ap₂, _∙_}
 use mathlib.Core.List.{List, [], _∷_, _++_, map, map-append, append-assoc}
@@ -7,7 +8,7 @@ use lib.IntN.{ℤ}
 use Rattle.machine.specs.Instruction.{Instruction, SET, COPY, ADD, LESS, EQUAL, BOTH, MOVEIF, OPEN, All}
 use Rattle.plans.specs.declared.Counters.{Counters}
 use Rattle.plans.specs.Blocks.{flat}
-use Rattle.plans.specs.Outline.{Level, outer, middle, inner, Count, Line, set, copy, add, less, equal, both, moveif, opens, Outline, end, line, run, each, again, counter, counted-to, timesOf, instructionOf, instructions}
+use Rattle.plans.specs.Outline.{Level, outer, middle, inner, Count, Line, set, copy, add, less, equal, both, moveif, opens, Outline, end, line, run, each, again, joined, counter, counted-to, timesOf, instructionOf, instructions}
 use Rattle.plans.proofs.Blocks.{all-blocks, all-map, map-flat}
 
 -- ---- what holds of each line
@@ -97,6 +98,18 @@ module _ {A B : Type 0} (g : A → B) (name : (region place : ℕ) → A) (far :
   plan-renamed (run c ls p) k = simp (map-append, map-flat, lines-renamed, plan-renamed p)
   plan-renamed (each l c b p) k = simp (map-append, map-flat, plan-renamed b, plan-renamed p)
   plan-renamed (again c b p) k = simp (map-append, map-flat, plan-renamed b, plan-renamed p)
+
+-- ---- one outline and then another
+
+module _ {A : Type 0} (name : (region place : ℕ) → A) (far : ℤ) (n m source : ℕ) (k : Counters) where
+  pub instructions-joined : (p q : Outline)
+      → instructions name far n m source (joined p q) k ≡ instructions name far n m source p k ++ instructions name far n m source q k
+  unfolding instructions
+  instructions-joined end q = refl
+  instructions-joined (line x p) q = ap (λ l. instructionOf name far n m source k x ∷ l) (instructions-joined p q)
+  instructions-joined (run c ls p) q = simp (instructions-joined p, append-assoc)
+  instructions-joined (each l c b p) q = simp (instructions-joined p, append-assoc)
+  instructions-joined (again c b p) q = simp (instructions-joined p, append-assoc)
 
 -- ---- the last line
 

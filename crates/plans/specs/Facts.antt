@@ -1,12 +1,12 @@
 -- The limits and plans of documents 01 and 02 as facts about literal header words and numbers, in their order, so that no other limit and no other
--- order of words agrees with them. Lengths and rounds at the limits are in proofs/Figures (`largest1` to `largest3`). Rests on the definitions alone.
+-- order of words agrees with them. Lengths and rounds at the limits are in proofs/Figures (`largest1` to `largest5`). Rests on the definitions alone.
 use mathlib.Core.Path.{_≡_}
 use mathlib.Core.List.{List, [], _∷_, _++_}
 use mathlib.Core.Option.{none, some}
 use Prim.Native.Nat.{ℕ}
 use lib.IntN.{pos, negsuc}
 use Rattle.plans.specs.Limits.{far, mostWeight, leastWeight, noEdge}
-use Rattle.plans.specs.Plan.{headerOf, headerWord, Accepted, planOf, wordCountOf, cellsOf, distances, parents, span, resultsOf, verdictCell}
+use Rattle.plans.specs.Plan.{headerOf, headerWord, Accepted, planOf, wordCountOf, cellsOf, distances, parents, route, span, none-given, resultsOf, verdictCell}
 
 -- ---- "Plan of method 1" at n = 2, m = 2, source 1. Cells: from 0, to 2, price 4, D at 6, P at 8, Y at 10, X at 12.
 
@@ -150,6 +150,50 @@ probe1 = 0x60000D0002200017 ∷ 0x60000E0002300017 ∷ []
 abbrev pub test3 : List ℕ
 test3 = 0x3000160000D00007 ∷ 0x6000190001600016 ∷ 0x3000160000E00008 ∷ 0x6000190001600016 ∷ []
 
+-- ---- "Ask 5" at n = 2, m = 2, source 1, after method 1's words but for the last. Cells: as method 1's, then Z 20, B 21, R 23.
+
+abbrev pub trace5 : List ℕ
+trace5 =
+    -- For each v COPY B+v from Y+v.
+    (0x1000150000A00000 ∷ 0x1000160000B00000 ∷ [])
+    -- Over all i: SET X+3 to i; for each v EQUAL X+5 (P+v, X+3), MOVEIF B+v (X+5, from i).
+    ++ (0x00000F0000000000 ∷ 0x400011000080000F ∷ 0x6000150001100000 ∷ 0x400011000090000F ∷ 0x6000160001100000 ∷ [])
+    ++ (0x00000F0000000001 ∷ 0x400011000080000F ∷ 0x6000150001100001 ∷ 0x400011000090000F ∷ 0x6000160001100001 ∷ [])
+
+abbrev pub follow5 : List ℕ
+follow5 =
+    -- COPY X+1 from Z.
+    (0x10000D0001400000 ∷ [])
+    -- For k from 0 to n-2: COPY X+2 from X+1; for each v EQUAL X+5 (X+2, Y+v), MOVEIF R+k (X+5, P+v), MOVEIF X+1 (X+5, B+v).
+    ++ (0x10000E0000D00000 ∷ [])
+    ++ (0x4000110000E0000A ∷ 0x6000170001100008 ∷ 0x60000D0001100015 ∷ [])
+    ++ (0x4000110000E0000B ∷ 0x6000170001100009 ∷ 0x60000D0001100016 ∷ [])
+
+-- At n = 3, m = 0, source 0, where k runs to 1. Cells: D 0, P 3, Y 6, X 9, Z 17, B 18, R 21.
+
+abbrev pub opening5 : List ℕ
+opening5 =
+    (0x0000060000000000 ∷ 0x0000000000000000 ∷ 0x000003FFFFFFFFFF ∷ [])
+    ++ (0x0000070000000001 ∷ 0x0000014000000000 ∷ 0x000004FFFFFFFFFF ∷ [])
+    ++ (0x0000080000000002 ∷ 0x0000024000000000 ∷ 0x000005FFFFFFFFFF ∷ [])
+    ++ (0x0000094000000000 ∷ 0x0000100000000000 ∷ [])
+    -- Without edges the predecessors are the copies alone; then COPY X+1 from Z.
+    ++ (0x1000120000600000 ∷ 0x1000130000700000 ∷ 0x1000140000800000 ∷ 0x10000A0001100000 ∷ [])
+
+abbrev pub place0 : List ℕ
+place0 =
+    (0x10000B0000A00000 ∷ [])
+    ++ (0x40000E0000B00006 ∷ 0x6000150000E00003 ∷ 0x60000A0000E00012 ∷ [])
+    ++ (0x40000E0000B00007 ∷ 0x6000150000E00004 ∷ 0x60000A0000E00013 ∷ [])
+    ++ (0x40000E0000B00008 ∷ 0x6000150000E00005 ∷ 0x60000A0000E00014 ∷ [])
+
+abbrev pub place1 : List ℕ
+place1 =
+    (0x10000B0000A00000 ∷ [])
+    ++ (0x40000E0000B00006 ∷ 0x6000160000E00003 ∷ 0x60000A0000E00012 ∷ [])
+    ++ (0x40000E0000B00007 ∷ 0x6000160000E00004 ∷ 0x60000A0000E00013 ∷ [])
+    ++ (0x40000E0000B00008 ∷ 0x6000160000E00005 ∷ 0x60000A0000E00014 ∷ [])
+
 pub record Facts : Type 0 where
   -- "FAR is 2^38 = 274,877,906,944"
   pub far-is : far ≡ pos 274877906944
@@ -164,29 +208,37 @@ pub record Facts : Type 0 where
   pub most2 : Accepted (headerOf 0x200020000000001F)
   pub least3 : Accepted (headerOf 0x3000010000000000)
   pub most3 : Accepted (headerOf 0x300020000800001F)
-  -- And one past each: method 0 and 4, n = 0 and 33, m = 129, m = 1 in method 2, source = n.
+  pub least5 : Accepted (headerOf 0x5000010000000000)
+  pub most5 : Accepted (headerOf 0x500020000800001F)
+  -- And one past each: method 0, 4 and 6, n = 0 and 33, m = 129, m = 1 in method 2, source = n.
   pub method0 : ¬ Accepted (headerOf 0x0000010000000000)
   pub method4 : ¬ Accepted (headerOf 0x4000010000000000)
+  pub method6 : ¬ Accepted (headerOf 0x6000010000000000)
   pub vertices0 : ¬ Accepted (headerOf 0x1000000000000000)
   pub vertices33 : ¬ Accepted (headerOf 0x1000210000000000)
   pub edges129 : ¬ Accepted (headerOf 0x1000010008100000)
   pub sorted129 : ¬ Accepted (headerOf 0x3000010008100000)
+  pub routed129 : ¬ Accepted (headerOf 0x5000010008100000)
   pub edges1 : ¬ Accepted (headerOf 0x2000010000100000)
   pub source-past1 : ¬ Accepted (headerOf 0x1000200008000020)
   pub source-past2 : ¬ Accepted (headerOf 0x2000010000000001)
+  pub source-past5 : ¬ Accepted (headerOf 0x5000200008000020)
   -- "Prices: -1,000,000 to 1,000,000 in method 1, 0 to 1,000,000 or -1 in method 2."
   pub weights : (leastWeight ≡ negsuc 999999) × (mostWeight ≡ 1000000) × (noEdge ≡ negsuc 0)
-  -- "3m+3n+8 in all", "n²+5n+6 in all", "2nm+4m+5n+10 in all": at the limits, and at the plans below.
+  -- "3m+3n+8 in all", "n²+5n+6 in all", "2nm+4m+5n+10 in all", "3m+5n+8 in all": at the limits, and at the plans below.
   pub cells : (cellsOf (headerOf 0x100020000800001F) ≡ 488)
       × (cellsOf (headerOf 0x1000020000200001) ≡ 20)
       × (cellsOf (headerOf 0x200020000000001F) ≡ 1190)
       × (cellsOf (headerOf 0x2000020000000001) ≡ 20)
       × (cellsOf (headerOf 0x300020000800001F) ≡ 8874)
       × (cellsOf (headerOf 0x3000020000200001) ≡ 36)
-  -- "m lane words", "n × n words": at the limits.
+      × (cellsOf (headerOf 0x500020000800001F) ≡ 552)
+      × (cellsOf (headerOf 0x5000020000200001) ≡ 24)
+  -- "m lane words", "n × n words", "m+1 words": at the limits.
   pub words : (wordCountOf (headerOf 0x100020000800001F) ≡ 128)
       × (wordCountOf (headerOf 0x200020000000001F) ≡ 1024)
       × (wordCountOf (headerOf 0x300020000800001F) ≡ 128)
+      × (wordCountOf (headerOf 0x500020000800001F) ≡ 129)
   -- "Results: n distances and n parents", "D+v and P+v": D at 3m and P at 3m+n, D at n² and P at n²+n, D at
   -- 3m+1 and P at 3m+n+1, at the limits and at the plans below.
   pub results : (resultsOf (headerOf 0x100020000800001F) distances ≡ span 384 32)
@@ -201,12 +253,25 @@ pub record Facts : Type 0 where
       × (resultsOf (headerOf 0x300020000800001F) parents ≡ span 417 32)
       × (resultsOf (headerOf 0x3000020000200001) distances ≡ span 7 2)
       × (resultsOf (headerOf 0x3000020000200001) parents ≡ span 9 2)
+  -- "D+v, P+v, and R+k to the route buffer, n-1 places": R at 3m+4n+9, at the limits, at the plans below and with one yard; and no route in
+  -- other methods.
+  pub routes : (resultsOf (headerOf 0x500020000800001F) distances ≡ span 384 32)
+      × (resultsOf (headerOf 0x500020000800001F) parents ≡ span 416 32)
+      × (resultsOf (headerOf 0x500020000800001F) route ≡ span 521 31)
+      × (resultsOf (headerOf 0x5000020000200001) route ≡ span 23 1)
+      × (resultsOf (headerOf 0x5000030000000000) route ≡ span 21 2)
+      × (resultsOf (headerOf 0x5000010000000000) route ≡ span 13 0)
+      × (resultsOf (headerOf 0x100020000800001F) route ≡ none-given)
+      × (resultsOf (headerOf 0x200020000000001F) route ≡ none-given)
+      × (resultsOf (headerOf 0x300020000800001F) route ≡ none-given)
   -- "OPEN X+7: the verdict", "OPEN X+8: the verdict": at the plans below and at the limits; method 2 has none.
   pub verdict : (verdictCell (headerOf 0x1000020000200001) ≡ some 19)
       × (verdictCell (headerOf 0x100020000800001F) ≡ some 487)
       × (verdictCell (headerOf 0x2000020000000001) ≡ none)
       × (verdictCell (headerOf 0x3000020000200001) ≡ some 25)
       × (verdictCell (headerOf 0x300020000800001F) ≡ some 553)
+      × (verdictCell (headerOf 0x5000020000200001) ≡ some 19)
+      × (verdictCell (headerOf 0x500020000800001F) ≡ some 487)
   -- "Plan of method 1": the opening, n-1 passes over all i, the check over all i, OPEN X+7.
   pub plan1 : planOf (headerOf 0x1000020000200001)
       ≡ (0x1000020000200001 ∷ opening1) ++ gather0 ++ relax0 ++ gather1 ++ relax1 ++ gather0 ++ check0 ++ gather1 ++ check1
@@ -217,3 +282,8 @@ pub record Facts : Type 0 where
   pub plan3 : planOf (headerOf 0x3000020000200001)
       ≡ (0x3000020000200001 ∷ opening3) ++ prepare3 ++ bid0 ++ sweep0 ++ bid1 ++ sweep1 ++ take3 ++ bid0 ++ probe0 ++ bid1 ++ probe1 ++ test3
       ++ (0x7000000001900000 ∷ [])
+  -- "Ask 5": "Opening, passes and check of method 1, word for word", the predecessors, the route, OPEN X+7.
+  pub plan5 : planOf (headerOf 0x5000020000200001)
+      ≡ (0x5000020000200001 ∷ opening1) ++ gather0 ++ relax0 ++ gather1 ++ relax1 ++ gather0 ++ check0 ++ gather1 ++ check1 ++ trace5 ++ follow5
+      ++ (0x7000000001300000 ∷ [])
+  pub places5 : planOf (headerOf 0x5000030000000000) ≡ (0x5000030000000000 ∷ opening5) ++ place0 ++ place1 ++ (0x7000000001000000 ∷ [])

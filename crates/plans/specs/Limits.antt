@@ -1,28 +1,44 @@
 -- The numbers that document 01 fixes, each named once. Rests on the toolchain's library alone.
-use mathlib.Core.Bool.{Bool, false, true}
+use mathlib.Core.Bool.{Bool, false, cond, _||_}
 use mathlib.Core.List.{List, [], _∷_}
 use Prim.Native.Nat.{ℕ, _-_, _^_}
+use lib.Dec.{eqb}
 use lib.IntN.{ℤ, pos, negsuc}
-use lib.ListN.{getD}
 
 -- The mark of an unreached vertex (FAR).
 abbrev pub far : ℤ
 far = pos (2 ^ 38)
 
--- What a method has of a row of values, the first for method 1; `other` where there is no such method.
-abbrev pub byMethod {ℓ} : {X : Type ℓ} → (method : ℕ) (other : X) → List X → X
-byMethod method other row = getD (other ∷ row) method other
+-- ---- methods
+
+-- Whether a number is one of some.
+abbrev pub isIn : List ℕ → (k : ℕ) → Bool
+isIn [] k = false
+isIn (x ∷ xs) k = eqb k x || isIn xs k
+
+-- What stands in a row where k stands among some numbers; `other` where it doesn't.
+abbrev pub found {ℓ} : {X : Type ℓ} → List ℕ → (k : ℕ) (other : X) → List X → X
+found [] k other row = other
+found (x ∷ xs) k other [] = other
+found (x ∷ xs) k other (y ∷ row) = cond (eqb k x) y (found xs k other row)
 
 -- The methods that there are.
+abbrev pub methods : List ℕ
+methods = 1 ∷ 2 ∷ 3 ∷ 5 ∷ []
+
 abbrev pub knownMethod : (method : ℕ) → Bool
-knownMethod method = byMethod method false (true ∷ true ∷ true ∷ [])
+knownMethod method = isIn methods method
+
+-- What a method has of a row of values, one for each of the methods, in their order; `other` where there is no such method.
+abbrev pub byMethod {ℓ} : {X : Type ℓ} → (method : ℕ) (other : X) → List X → X
+byMethod method other row = found methods method other row
 
 -- The greatest counts of vertices and edges.
 abbrev pub mostVertices : ℕ
 mostVertices = 32
 
 abbrev pub mostEdges : (method : ℕ) → ℕ
-mostEdges method = byMethod method 0 (128 ∷ 0 ∷ 128 ∷ [])
+mostEdges method = byMethod method 0 (128 ∷ 0 ∷ 128 ∷ 128 ∷ [])
 
 -- Weights (prices): an edge's from the least to the greatest, an entry's from 0, or -1, which stands for no edge.
 abbrev pub mostWeight : ℕ

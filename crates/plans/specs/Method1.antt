@@ -4,7 +4,7 @@ use mathlib.Core.List.{List, [], _∷_}
 use Prim.Native.Nat.{ℕ, _+_, _*_}
 use lib.IntN.{ℤ}
 use Rattle.machine.specs.Instruction.{Instruction}
-use Rattle.plans.specs.Outline.{middle, inner, vertices, others, edges, Spot, fixed, at, Cell, small, minus-one, unreached, counted, from-source, Line, set, copy, add, less, equal, both, moveif, opens, Outline, end, line, run, each, again, _▸_, start, instructions}
+use Rattle.plans.specs.Outline.{middle, inner, vertices, others, edges, Spot, fixed, at, Cell, small, minus-one, unreached, counted, from-source, Line, set, copy, add, less, equal, both, moveif, opens, Outline, end, line, run, each, again, _▸_, joined, start, instructions}
 -- The regions: the edges' ends and weights (price), distances, parents, the vertices' numbers, and working cells.
 pub use Rattle.plans.specs.Regions.{region0 as from, region1 as to, region2 as weight, region3 as D, region4 as P, region5 as Y, region6 as X}
 
@@ -16,13 +16,13 @@ abbrev pub cellCount : (n m : ℕ) → ℕ
 cellCount n m = 3 * m + 3 * n + 8
 
 -- The places in a line, and working cell j.
-abbrev v : Spot
+abbrev pub v : Spot
 v = at inner
 
-abbrev i : Spot
+abbrev pub i : Spot
 i = at middle
 
-abbrev x : ℕ → Cell
+abbrev pub x : ℕ → Cell
 x j = X (fixed j)
 
 -- ---- edge i, in a pass and in the check
@@ -57,17 +57,19 @@ relax = gather ▸ line (set (x 3) (counted middle)) ▸ run vertices update ▸
 abbrev pub check : Outline
 check = gather ▸ run vertices test ▸ end
 
--- ---- the plan: the opening, n-1 passes over all edges, the check, and the verdict opened
+-- ---- the plan: the opening, n-1 passes over all edges and the check, which method 5 shares; then the verdict opened
 
-abbrev pub outline : Outline
-outline =
+abbrev pub solve : Outline
+solve =
     run vertices (set (Y v) (counted inner) ∷ set (D v) from-source ∷ set (P v) minus-one ∷ [])
     ▸ line (set (x 0) unreached)
     ▸ line (set (x 7) (small 0))
     ▸ again others (each middle edges relax ▸ end)
     ▸ each middle edges check
-    ▸ line (opens (x 7))
     ▸ end
+
+abbrev pub outline : Outline
+outline = joined solve (line (opens (x 7)) end)
 
 unfoldable pub plan : {A : Type 0} (name : (region place : ℕ) → A) (far : ℤ) (n m source : ℕ) → List (Instruction A)
 plan name far n m source = instructions name far n m source outline start

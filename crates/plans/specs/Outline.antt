@@ -67,6 +67,14 @@ infixr 60 _▸_
 abbrev pub _▸_ : (Outline → Outline) → Outline → Outline
 f ▸ o = f o
 
+-- One outline, and then another.
+abbrev pub joined : (first second : Outline) → Outline
+joined end q = q
+joined (line x p) q = line x (joined p q)
+joined (run c ls p) q = run c ls (joined p q)
+joined (each l c b p) q = each l c b (joined p q)
+joined (again c b p) q = again c b (joined p q)
+
 -- ---- what it stands for
 
 abbrev pub counter : Level → Counters → ℕ

@@ -17,13 +17,13 @@ use Rattle.answers.specs.Refusal.{Method, firstOf, found, orElse}
 use Rattle.answers.specs.Told.{Told, refused}
 use Rattle.answers.proofs.Unmet.{first-none}
 use Rattle.plans.specs.declared.Header.{Header}
-use Rattle.plans.specs.Plan.{wordCountOf, Kind, distances, parents}
+use Rattle.plans.specs.Plan.{wordCountOf, Kind, distances, parents, route}
 use Rattle.plans.proofs.EachKind.{each-kind, every-kind}
 use Rattle.planner.specs.Refusal.{headerRefusal}
 use Rattle.requests.specs.declared.Lengths.{Lengths}
-use Rattle.requests.specs.Refusal.{roomFor, askedOf, lengthTests, sizesRefusal, wordsRefusal, requestRefusal}
+use Rattle.requests.specs.Refusal.{roomFor, askedOf, lengthTests, sizesRefusal, wordsRefusal, lastRefusal, requestRefusal}
 use Rattle.requests.specs.Sizes.{asking, askedBy, sizesTold}
-use Rattle.requests.specs.WithinLimits.{headerIn, wordsIn, WithinLimits}
+use Rattle.requests.specs.WithinLimits.{headerIn, wordsIn, placedIn, WithinLimits}
 use Rattle.requests.proofs.Sizes.{Sized, sizes-none}
 use Rattle.requests.proofs.Order.{in-order}
 use Rattle.requests.proofs.WithinLimits.{public-none, all-none, counted-in, cells-in, log-in, results-in, within}
@@ -55,22 +55,30 @@ module _ (request : List ℕ) (lent : Lengths) (w : WithinLimits request lent) w
   -- A request that runs in whatever buffers has a header word, and neither header nor words meet a refusal.
   unmet : (length request ≡ 0 → ⊥)
       × (headerRefusal (headerIn request) ≡ none)
-      × (wordsRefusal (headerIn request) 0 0 (wordsIn request) ≡ none)
+      × (wordsRefusal (headerIn request) 0 0 (placedIn request) ≡ none)
+      × (lastRefusal (headerIn request) (wordsIn request) ≡ none)
   unmet =
       let (some-word, header, _) = public-none request lent .0 (w .public) in
-      let (_, _, words) = all-none request lent some-word .0 (within request lent .1 w) in
-      (some-word, header, words)
+      let (_, _, words, last) = all-none request lent some-word .0 (within request lent .1 w) in
+      (some-word, header, words, last)
 
   -- So it is told sizes.
   pub told-in : sizesTold request ≡ asking (askedOf (headerIn request))
-  told-in = let (some-word, header, _) = unmet in asked request some-word ∙ rw header
+  told-in = let (some-word, header, _, _) = unmet in asked request some-word ∙ rw header
 
   -- Namely these.
   numbers : (l : Lengths) → sizesTold request ≡ asking l → askedOf (headerIn request) ≡ l
   numbers l told =
       let e : asking (askedOf (headerIn request)) ≡ asking l = sym told-in ∙ told in
       let value : ℕ → Told → ℕ = λ i t. getD (t .values) i 0 in
-      λ i. record { cells = ap (value 0) e i; log = ap (value 1) e i; distances = ap (value 2) e i; parents = ap (value 3) e i }
+      λ i.
+      record {
+        cells = ap (value 0) e i;
+        log = ap (value 1) e i;
+        distances = ap (value 2) e i;
+        parents = ap (value 3) e i;
+        route = ap (value 4) e i;
+      }
 
 alone : (o : Option Refusal) → orElse o none ≡ o
 alone none = refl
@@ -83,9 +91,9 @@ module _ (request : List ℕ) (needed : Lengths) (told : sizesTold request ≡ a
       ≡ firstOf (lengthTests needed lent)
   unfolding sizesRefusal
   by-length w =
-      let (some-word, header, words) = unmet request needed w in
+      let (some-word, header, words, last) = unmet request needed w in
       let count = eq-eqb _ (wordCountOf (headerIn request)) (counted-in _ _ w) in
-      rw (← numbers request needed w needed told) (in-order request lent some-word ∙ rw (header, words, count) (alone _))
+      rw (← numbers request needed w needed told) (in-order request lent some-word ∙ rw (header, words, last, count) (alone _))
 
   -- It runs in lent buffers exactly where it runs in those and no lent one is shorter.
   pub enough : WithinLimits request lent
@@ -96,11 +104,16 @@ module _ (request : List ℕ) (needed : Lengths) (told : sizesTold request ≡ a
   enough = (
     λ w.
         let h = headerIn request in
-        let (some-word, header, words) = unmet request lent w in
+        let (some-word, header, words, last) = unmet request lent w in
         let sized : Sized h _ (askedOf h) =
-        record { counted = counted-in _ _ w; cells = omega arith; log = omega arith; results = each-kind _ (omega arith) (omega arith) } in
-        let runs = within request (askedOf h) .0 (all-none request (askedOf h) some-word .1 (header, sizes-none h _ _ .1 sized, words)) in
-        rw (← numbers request lent w needed told) (runs, cells-in _ _ w, log-in _ _ w, each-kind _ (results-in _ _ w distances) (results-in _ _ w parents)),
+        record { counted = counted-in _ _ w; cells = omega arith; log = omega arith; results = each-kind _ (omega arith) (omega arith) (omega arith) } in
+        let runs = within request (askedOf h) .0 (all-none request (askedOf h) some-word .1 (header, sizes-none h _ _ .1 sized, words, last)) in
+        rw (← numbers request lent w needed told) (
+          runs,
+          cells-in _ _ w,
+          log-in _ _ w,
+          each-kind _ (results-in _ _ w distances) (results-in _ _ w parents) (results-in _ _ w route),
+        ),
     λ (w, cells, log, results).
         let long : Kind → Bool = λ k. leb (roomFor needed k) (roomFor lent k) in
         within request lent .0

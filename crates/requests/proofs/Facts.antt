@@ -5,12 +5,12 @@ use Rattle.plans.specs.Blocks.{flat}
 use Rattle.plans.specs.Plan.{wordCountOf, cellsOf, resultsOf, lengthOf, verdictCell}
 use Rattle.planner.specs.Refusal.{headerRefusal}
 use Rattle.requests.specs.Word.{weightOf}
-use Rattle.requests.specs.Refusal.{logLengthOf, sizesRefusal, inRange, edgeRefusal, sortedRefusal, entryRefusal, wordRefusal, wordsRefusal, requestRefusal}
+use Rattle.requests.specs.Refusal.{logLengthOf, sizesRefusal, inRange, edgeRefusal, sortedRefusal, entryRefusal, wordRefusal, wordsRefusal, lastRefusal, requestRefusal}
 use Rattle.requests.specs.Sizes.{sizesTold}
 use Rattle.requests.specs.Facts.{Facts}
 
 pub facts : Facts
-unfolding signedOf flat cellsOf resultsOf lengthOf headerRefusal weightOf wordCountOf logLengthOf verdictCell sizesRefusal inRange edgeRefusal sortedRefusal entryRefusal wordRefusal wordsRefusal requestRefusal sizesTold
+unfolding signedOf flat cellsOf resultsOf lengthOf headerRefusal weightOf wordCountOf logLengthOf verdictCell sizesRefusal inRange edgeRefusal sortedRefusal entryRefusal wordRefusal wordsRefusal lastRefusal requestRefusal sizesTold
 facts =
     record {
       vertices = (refl, refl, refl, refl, refl, refl, refl, refl, refl);
@@ -22,13 +22,16 @@ facts =
       sizes1 = (refl, refl, refl, refl, refl);
       sizes2 = (refl, refl, refl, refl, refl);
       sizes3 = (refl, refl, refl, refl, refl, refl);
-      logs = (refl, refl, refl);
-      asked = (refl, refl, refl, refl, refl);
+      sizes5 = (refl, refl, refl, refl, refl, refl, refl, refl, refl);
+      logs = (refl, refl, refl, refl);
+      asked = (refl, refl, refl, refl, refl, refl);
       order = (refl, refl, refl, refl, refl, refl, refl, refl, refl, refl);
       faults = (refl, refl, refl, refl, refl, refl, refl, refl);
       sorted-edge = (refl, refl, refl, refl, refl, refl, refl, refl);
       order3 = (refl, refl, refl, refl, refl, refl, refl);
       order-last = (refl, refl, refl, refl);
+      destinations = (refl, refl, refl, refl, refl, refl, refl, refl);
+      destination-last = (refl, refl, refl, refl, refl, refl, refl);
       entry-faults = refl;
       places = (refl, refl, refl, refl, refl, refl, refl);
     }

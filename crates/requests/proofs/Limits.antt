@@ -2,30 +2,31 @@
 -- Rests on Agreed and on the laws of plans.
 use mathlib.Core.Path.{_≡_, refl, sym, ap}
 use mathlib.Core.Logic.{_↔_, _⊎_, inl, inr, ⊎-elim}
-use mathlib.Core.Bool.{Bool, true, false, _&&_}
+use mathlib.Core.Bool.{Bool, _&&_}
 use mathlib.Core.List.{List, [], _∷_, _++_}
 use Prim.Native.Nat.{ℕ, zero, suc, _+_, _-_, _*_, _<_, _≤_}
-use native.Mathlib.Nat.{add-zero, zero-add, add-suc, suc-add}
+use native.Mathlib.Nat.{add-zero}
 use native.Mathlib.Omega.{arith}
 use lib.Dec.{T, ltb, leb, eqb, ltb→lt, leb→le, eqb→eq, lt→ltb, le→leb}
 use lib.IntN.{ℤ, pos, negsuc, natAbs, pos-ne-negsuc}
 use lib.ListN.{getD}
 use lib.Signed.{leZ, _≤ℤ_, leZ-yes}
 use mir.Facts.{and-yes, yes-and}
-use borrow.Author.Tests.{eq-eqb}
+use borrow.Author.Tests.{eq-eqb, eqb-true, eqb-false}
+use Rattle.fields.proofs.Test.{by-test}
 use Rattle.answers.specs.declared.Refusal.{Refusal}
 use Rattle.answers.specs.Refusal.{plain, placed, orElse}
 use Rattle.answers.proofs.Unmet.{first-append}
 use Rattle.plans.specs.declared.Header.{Header}
-use Rattle.plans.specs.Limits.{byMethod, knownMethod}
+use Rattle.plans.specs.Limits.{byMethod, isIn, methods}
 use Rattle.plans.specs.Plan.{Accepted, wordCountOf, cellsOf, Kind, byKind, resultsOf, lengthOf, verdictCell}
 use Rattle.plans.proofs.EachKind.{each-kind, every-kind}
-use Rattle.plans.proofs.Headers.{by-method}
+use Rattle.plans.proofs.Headers.{header, by-method}
 use Rattle.planner.specs.Refusal.{headerTests, headerRefusal}
 use Rattle.requests.specs.declared.Lengths.{Lengths}
-use Rattle.requests.specs.Word.{fromField, toField, spareOfEdge, spareOfEntry, weightOf}
-use Rattle.requests.specs.Refusal.{logLengthOf, roomFor, askedOf, sizesTests, sizesRefusal, inRange, edgeTests, edgeRefusal, orderTests, sortedRefusal, entryTests, entryRefusal, wordRefusal}
-use Rattle.requests.specs.WithinLimits.{OneOf, headerLimits, logFigure, sizesLimits, edgeLimits, orderLimits, entryLimits, wordLimits}
+use Rattle.requests.specs.Word.{destinationIn, fromField, toField, spareOfEdge, spareOfEntry, weightOf}
+use Rattle.requests.specs.Refusal.{logLengthOf, roomFor, askedOf, sizesTests, sizesRefusal, inRange, edgeTests, edgeRefusal, orderTests, sortedRefusal, entryTests, entryRefusal, wordRefusal, lastTests, lastRefusal}
+use Rattle.requests.specs.WithinLimits.{OneOf, headerLimits, logFigure, sizesLimits, edgeLimits, orderLimits, entryLimits, wordLimits, lastOf}
 use Rattle.requests.proofs.Agreed.{Agree, Agrees, agreed}
 
 -- ---- one test
@@ -41,30 +42,16 @@ at-most x y = (leb→le x y, le→leb x y)
 
 -- ---- what is public
 
--- The numbers of the places that are marked in a row, whose first place has the number `from`.
-abbrev places : (from : ℕ) → List Bool → List ℕ
-places from [] = []
-places from (true ∷ row) = from ∷ places (suc from) row
-places from (false ∷ row) = places (suc from) row
-
-from-on : (from : ℕ) (row : List Bool) (k : ℕ) → OneOf (places from row) k → from ≤ k
-from-on from [] k o = absurd o
-from-on from (true ∷ row) k o = ⊎-elim (λ (e : k ≡ from). omega arith) (λ p. omega (arith, from-on (suc from) row k p)) o
-from-on from (false ∷ row) k o = omega (arith, from-on (suc from) row k o)
-
-marked : (from : ℕ) (row : List Bool) (k : ℕ) → T (getD row k false) ↔ OneOf (places from row) (from + k)
-marked from [] k = (λ t. t, λ o. o)
-marked from (true ∷ row) zero = (λ t. inl (add-zero from), λ o. tt)
-marked from (false ∷ row) zero = (λ t. absurd t, λ o. let no : ⊥ = omega (arith, from-on (suc from) row (from + 0) o) in no)
-marked from (true ∷ row) (suc k) =
-    let rest = rw (suc-add, ← add-suc) at (marked (suc from) row k) in (
-      λ t. inr (rest .0 t),
-      ⊎-elim (λ (e : from + suc k ≡ from). let no : ⊥ = omega arith in absurd no) (rest .1),
-    )
-marked from (false ∷ row) (suc k) = rw (suc-add, ← add-suc) at (marked (suc from) row k)
-
-known-is : (method : ℕ) → T (knownMethod method) ↔ OneOf (1 ∷ 2 ∷ 3 ∷ []) method
-known-is method = rw zero-add at (marked 0 (false ∷ true ∷ true ∷ true ∷ []) method)
+is-one : (xs : List ℕ) (k : ℕ) → T (isIn xs k) ↔ OneOf xs k
+is-one [] k = (λ t. t, λ o. o)
+is-one (x ∷ xs) k =
+    by-test (eqb k x)
+    (λ e. (λ t. inl (eqb-true k x e), λ o. rw e tt))
+    (λ e.
+    let rest = is-one xs k in (
+      λ t. inr (rest .0 (rw e at t)),
+      ⊎-elim (λ (q : k ≡ x). absurd (eqb-false k x e q)) (λ o. rw e (rest .1 o)),
+    ))
 
 -- The log that the header asks for.
 log-figure : (h : Header) → Accepted h → logFigure (h .method) (h .vertices) (h .edges) ≡ logLengthOf h
@@ -74,21 +61,25 @@ log-figure =
     (λ n m source a. one-more (3 * n) 4 (m * (8 * (n * n) + 3 * n - 1)))
     (λ n source a. sym (add-zero _))
     (λ n m source a. one-more (3 * (n * n) + 3 * n) 5 (m * (3 * (n * n) + 10 * n - 1)))
+    (λ n m source a. one-more (3 * (n * n) + 2 * n) 4 (m * (8 * (n * n) + 5 * n)))
   where
     one-more : (a b x : ℕ) → a + suc b + x ≡ a + b + x + 1
     one-more a b x = omega arith
 
 -- So many results of each kind.
 abbrev resultsFigure : Header → Kind → ℕ
-resultsFigure h = byMethod (h .method) (λ k. 0) (byKind (h .vertices) (h .vertices) ∷ byKind (h .vertices) (h .vertices) ∷ byKind (h .vertices) (h .vertices) ∷ [])
+resultsFigure h =
+    let n = h .vertices in
+    byMethod (h .method) (λ k. 0) (byKind n n 0 ∷ byKind n n 0 ∷ byKind n n 0 ∷ byKind n n (n - 1) ∷ [])
 
 results-figure : (h : Header) → Accepted h → (k : Kind) → resultsFigure h k ≡ roomFor (askedOf h) k
 unfolding resultsOf
 results-figure =
     by-method (λ h. (k : Kind) → resultsFigure h k ≡ roomFor (askedOf h) k)
-    (λ n m source a. each-kind _ refl refl)
-    (λ n source a. each-kind _ refl refl)
-    (λ n m source a. each-kind _ refl refl)
+    (λ n m source a. each-kind _ refl refl refl)
+    (λ n source a. each-kind _ refl refl refl)
+    (λ n m source a. each-kind _ refl refl refl)
+    (λ n m source a. each-kind _ refl refl refl)
 
 sizes-agree : (h : Header) → Accepted h → (words : ℕ) (lent : Lengths)
     → Agree plain (sizesTests h words lent) (sizesLimits (h .method) (h .vertices) (h .edges) words lent)
@@ -120,7 +111,7 @@ header-agrees : (h : Header) (ts : List (Bool × Refusal)) (ls : List (ℕ × Ty
     → Agree plain (headerTests h ++ ts) (headerLimits (h .method) (h .vertices) (h .edges) (h .source) ++ ls)
 header-agrees h ts ls after = (
   refl,
-  known-is (h .method),
+  is-one methods (h .method),
   λ known. (
     refl,
     (
@@ -136,7 +127,7 @@ header-agrees h ts ls after = (
         λ source.
             after
             (record {
-              known = known-is (h .method) .1 known;
+              known = is-one methods (h .method) .1 known;
               vertices-some = vertices .0;
               vertices-few = vertices .1;
               edges-few = edges;
@@ -209,3 +200,17 @@ word-agrees =
     let ls = orderLimits before w in
     agreed (λ k. placed k place) (λ k. refl) (edgeTests n place w ts) (edgeLimits n w ls)
     (edge-agrees n place w ts ls (order-agrees place before w)))
+    (λ n m source a place before w. agreed (λ k. placed k place) (λ k. refl) (edgeTests n place w []) (edgeLimits n w []) (edge-agrees n place w [] [] tt))
+
+-- ---- what is tested last
+
+pub last-agrees : (h : Header) → Accepted h → (ws : List ℕ)
+    → Agrees plain (lastRefusal h ws) (lastOf (h .method) (h .vertices) (destinationIn h ws))
+unfolding lastRefusal
+last-agrees =
+    by-method (λ h. (ws : List ℕ) → Agrees plain (lastRefusal h ws) (lastOf (h .method) (h .vertices) (destinationIn h ws)))
+    (λ n m source a ws. agreed plain (λ k. refl) [] [] tt)
+    (λ n source a ws. agreed plain (λ k. refl) [] [] tt)
+    (λ n m source a ws. agreed plain (λ k. refl) [] [] tt)
+    (λ n m source a ws.
+    agreed plain (λ k. refl) (lastTests (header 5 n m source) ws) (lastOf 5 n (getD ws m 0)) (refl, is-below (getD ws m 0) n, λ there. tt))

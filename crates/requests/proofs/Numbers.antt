@@ -5,29 +5,25 @@ use mathlib.Core.Logic.{inl, inr}
 use mathlib.Core.Bool.{true, false}
 use mathlib.Core.List.{List, [], _∷_}
 use mathlib.Core.Option.{none}
-use Prim.Native.Nat.{ℕ, zero, suc}
-use lib.ListN.{length, getD}
+use Prim.Native.Nat.{ℕ, suc}
+use lib.Dec.{ltb}
+use lib.ListN.{length}
 use Rattle.answers.specs.declared.Refusal.{Refusal}
-use Rattle.answers.specs.Refusal.{placed, Method, Vertices, Edges, Source, Words, Cells, Log, Results, SpareBits, Weight, FromVertex, ToVertex, Unsorted, orElse}
+use Rattle.answers.specs.Refusal.{placed, Method, Vertices, Edges, Source, Words, Cells, Log, Results, SpareBits, Weight, FromVertex, ToVertex, Unsorted, Destination, orElse}
 use Rattle.answers.specs.Told.{Apart}
 use Rattle.answers.proofs.Unmet.{orElse-assoc}
 use Rattle.answers.proofs.Told.{Formed}
-use Rattle.answers.proofs.Meets.{Meets, none-meets, some-meets, first-meets, orElse-meets}
-use Rattle.machine.specs.Instruction.{All}
+use Rattle.answers.proofs.Meets.{Meets, OfEach, none-meets, some-meets, first-meets, orElse-meets}
 use Rattle.plans.specs.declared.Header.{Header}
 use Rattle.plans.specs.Plan.{headerOf}
+use Rattle.plans.proofs.Headers.{of-row}
 use Rattle.planner.specs.Refusal.{headerRefusal}
 use Rattle.planner.proofs.Headers.{header-meets}
 use Rattle.requests.specs.declared.Lengths.{Lengths}
-use Rattle.requests.specs.Refusal.{sizesTests, sizesRefusal, edgeTests, edgeRefusal, orderTests, sortedRefusal, entryTests, entryRefusal, wordRefusal, wordsRefusal, requestRefusal}
+use Rattle.requests.specs.Word.{placedWords, destinationIn}
+use Rattle.requests.specs.Refusal.{sizesTests, sizesRefusal, edgeTests, edgeRefusal, orderTests, sortedRefusal, entryTests, entryRefusal, wordRefusal, wordsRefusal, lastTests, lastRefusal, requestRefusal}
 
--- What holds of each of a list, and of what stands past its end, holds of the k-th.
-each-of : {X : Type 0} → (P : X → Type 0) (xs : List X) (k : ℕ) (past : X) → P past → All P xs → P (getD xs k past)
-each-of P [] k past p a = p
-each-of P (x ∷ xs) zero past p a = a .0
-each-of P (x ∷ xs) (suc k) past p a = each-of P xs k past p (a .1)
-
--- Of 1 to 8, and of those of a word at any place.
+-- Of 1 to 8, of those of a word at any place, and of 16.
 abbrev OfPublic : (Refusal → Type 0) → Type 0
 OfPublic P = (P Method × P Vertices × P Edges × P Source) × (P Words × P Cells × P Log × P Results)
 
@@ -51,8 +47,8 @@ module _ (P : Refusal → Type 0) where
       let edge = first-meets P (edgeTests n place w []) (spare, (from, (to, (weight, tt)))) in
       let entry = first-meets P (entryTests place w) (spare, (weight, tt)) in
       let sorted = first-meets P (edgeTests n place w (orderTests place before w)) (spare, (from, (to, (weight, (order, tt))))) in
-      each-of (Meets P) (none ∷ edgeRefusal n place w ∷ entryRefusal place w ∷ sortedRefusal n place before w ∷ []) (h .method) none
-      (none-meets P) (none-meets P, (edge, (entry, (sorted, tt))))
+      of-row (Meets P) (edgeRefusal n place w ∷ entryRefusal place w ∷ sortedRefusal n place before w ∷ edgeRefusal n place w ∷ [])
+      (edge, (entry, (sorted, (edge, tt)))) (h .method) none (none-meets P)
 
   words-meet : OfWords P → (h : Header) (place before : ℕ) (ws : List ℕ) → Meets P (wordsRefusal h place before ws)
   unfolding wordsRefusal
@@ -60,19 +56,32 @@ module _ (P : Refusal → Type 0) where
   words-meet each h place before (w ∷ ws) =
       orElse-meets P (wordRefusal h place before w) _ (word-meets place (each place) h before w) (words-meet each h (suc place) w ws)
 
-  request-meets : OfPublic P → OfWords P → (request : List ℕ) (lent : Lengths) → Meets P (requestRefusal request lent)
-  unfolding requestRefusal
-  request-meets public each [] lent = some-meets P Method (public .0 .0)
-  request-meets public each (w ∷ ws) lent =
-      rw (orElse-assoc (headerRefusal (headerOf w)) _ _)
-      (orElse-meets P _ _ (public-meets public (headerOf w) (length ws) lent) (words-meet each (headerOf w) 0 0 ws))
+  last-meets : P Destination → (h : Header) (ws : List ℕ) → Meets P (lastRefusal h ws)
+  unfolding lastRefusal
+  last-meets destination h ws =
+      first-meets P (lastTests h ws)
+      (of-row (OfEach P)
+      ([] ∷ [] ∷ [] ∷ ((ltb (destinationIn h ws) (h .vertices), Destination) ∷ []) ∷ []) (tt, (tt, (tt, ((destination, tt), tt))))
+      (h .method) [] tt)
 
--- 1 to 8 have no place; a word's refusal has the word's.
+  request-meets : OfPublic P → OfWords P → P Destination → (request : List ℕ) (lent : Lengths) → Meets P (requestRefusal request lent)
+  unfolding requestRefusal
+  request-meets public each destination [] lent = some-meets P Method (public .0 .0)
+  request-meets public each destination (w ∷ ws) lent =
+      let h = headerOf w in
+      rw (orElse-assoc (headerRefusal h) _ _)
+      (orElse-meets P _ _ (public-meets public h (length ws) lent)
+      (orElse-meets P _ _ (words-meet each h 0 0 (placedWords h ws)) (last-meets destination h ws)))
+
+-- 1 to 8 and 16 have no place; a word's refusal has the word's.
 pub public-unplaced : (h : Header) (words : ℕ) (lent : Lengths) → Meets (λ r. r .placed ≡ false) (orElse (headerRefusal h) (sizesRefusal h words lent))
 public-unplaced = public-meets (λ r. r .placed ≡ false) ((refl, refl, refl, refl), (refl, refl, refl, refl))
 
 pub words-placed : (h : Header) (place before : ℕ) (ws : List ℕ) → Meets (λ r. r .placed ≡ true) (wordsRefusal h place before ws)
 words-placed = words-meet (λ r. r .placed ≡ true) (λ place. (refl, refl, refl, refl, refl))
+
+pub last-unplaced : (h : Header) (ws : List ℕ) → Meets (λ r. r .placed ≡ false) (lastRefusal h ws)
+last-unplaced = last-meets (λ r. r .placed ≡ false) refl
 
 pub word-place : (h : Header) (place before w : ℕ) → Meets (λ r. r .place ≡ place) (wordRefusal h place before w)
 word-place h place before w = word-meets (λ r. r .place ≡ place) place (refl, refl, refl, refl, refl) h before w
@@ -82,11 +91,11 @@ pub request-formed : (request : List ℕ) (lent : Lengths) → Meets Formed (req
 request-formed =
     request-meets Formed
     ((inl refl, inl refl, inl refl, inl refl), (inl refl, inl refl, inl refl, inl refl))
-    (λ place. (inr refl, inr refl, inr refl, inr refl, inr refl))
+    (λ place. (inr refl, inr refl, inr refl, inr refl, inr refl)) (inl refl)
 
 -- None has a run's number.
 pub request-apart : (request : List ℕ) (lent : Lengths) → Meets Apart (requestRefusal request lent)
 request-apart =
     request-meets Apart
     (((refl, refl), (refl, refl), (refl, refl), (refl, refl)), ((refl, refl), (refl, refl), (refl, refl), (refl, refl)))
-    (λ place. ((refl, refl), (refl, refl), (refl, refl), (refl, refl), (refl, refl)))
+    (λ place. ((refl, refl), (refl, refl), (refl, refl), (refl, refl), (refl, refl))) (refl, refl)

@@ -1,5 +1,5 @@
 -- A request is refused for a word, by a number, exactly where that is its first word that breaks a limit and the number is that of the first limit
--- broken. Rests on Agreed, WithinLimits, Order and Numbers.
+-- broken; and without a place exactly for a limit that is public, or for the destination's. Rests on Agreed, WithinLimits, Order and Numbers.
 use mathlib.Core.Path.{_≡_, refl, sym, ap, _∙_}
 use mathlib.Core.Logic.{_↔_, _⊎_, inl, inr, ⊎-elim}
 use mathlib.Core.Bool.{true, false, true≢false}
@@ -13,15 +13,16 @@ use Rattle.answers.specs.Refusal.{plain, placed, Method, orElse}
 use Rattle.answers.proofs.Unmet.{orElse-none, orElse-assoc}
 use Rattle.answers.proofs.Meets.{Meets}
 use Rattle.plans.specs.declared.Header.{Header}
+use Rattle.plans.specs.Plan.{Accepted}
 use Rattle.planner.specs.Refusal.{headerRefusal}
 use Rattle.planner.proofs.Headers.{accepted}
 use Rattle.requests.specs.declared.Lengths.{Lengths}
-use Rattle.requests.specs.Refusal.{sizesRefusal, wordRefusal, wordsRefusal, requestRefusal}
-use Rattle.requests.specs.WithinLimits.{headerIn, wordsIn, FirstBroken, headerLimits, sizesLimits, publicLimits, WithinLimits, BrokenAt}
+use Rattle.requests.specs.Refusal.{sizesRefusal, wordRefusal, wordsRefusal, lastRefusal, requestRefusal}
+use Rattle.requests.specs.WithinLimits.{headerIn, wordsIn, placedIn, AllKept, FirstBroken, headerLimits, sizesLimits, publicLimits, WithinLimits, BrokenAt, BrokenLast}
 use Rattle.requests.proofs.Order.{no-word, in-order}
-use Rattle.requests.proofs.Limits.{public-agrees, word-agrees}
-use Rattle.requests.proofs.WithinLimits.{public-none, within}
-use Rattle.requests.proofs.Numbers.{public-unplaced, words-placed, word-place, request-formed}
+use Rattle.requests.proofs.Limits.{public-agrees, word-agrees, last-agrees}
+use Rattle.requests.proofs.WithinLimits.{words-good, good-words, public-none, within}
+use Rattle.requests.proofs.Numbers.{public-unplaced, words-placed, last-unplaced, word-place, request-formed}
 
 -- ---- words in their order
 
@@ -83,37 +84,75 @@ first-met h base u ws r f = met-at h base u ws r (f .k) (base + f .k) refl (f .t
 
 -- ---- the request
 
--- Of two checks, the first without places and the second with places, each refusal is the one's or the other's.
-from-first : (a b : Option Refusal) (k : ℕ) → Meets (λ r. r .placed ≡ true) b → orElse a b ≡ some (plain k) → a ≡ some (plain k)
-from-first none b k m e = absurd (true≢false (sym (m .holds (plain k) e)))
-from-first (some q) b k m e = e
+-- Of two checks, the one with places and the other without, each refusal is the one's or the other's.
+module _ (k : ℕ) where
+  of-placed : (a b : Option Refusal) (place : ℕ) → Meets (λ r. r .placed ≡ false) b → orElse a b ≡ some (placed k place) → a ≡ some (placed k place)
+  of-placed none b place m e = absurd (true≢false (m .holds (placed k place) e))
+  of-placed (some q) b place m e = e
 
-from-second : (a b : Option Refusal) (k place : ℕ) → Meets (λ r. r .placed ≡ false) a → orElse a b ≡ some (placed k place)
-    → (a ≡ none) × (b ≡ some (placed k place))
-from-second none b k place m e = (refl, e)
-from-second (some q) b k place m e = absurd (true≢false (m .holds (placed k place) e))
+  past-plain : (a b : Option Refusal) (place : ℕ) → Meets (λ r. r .placed ≡ false) a → orElse a b ≡ some (placed k place)
+      → (a ≡ none) × (b ≡ some (placed k place))
+  past-plain none b place m e = (refl, e)
+  past-plain (some q) b place m e = absurd (true≢false (m .holds (placed k place) e))
+
+  past-placed : (a b : Option Refusal) → Meets (λ r. r .placed ≡ true) a → orElse a b ≡ some (plain k) → (a ≡ none) × (b ≡ some (plain k))
+  past-placed none b m e = (refl, e)
+  past-placed (some q) b m e = absurd (true≢false (sym (m .holds (plain k) e)))
+
+  either : (a b : Option Refusal) → orElse a b ≡ some (plain k) → (a ≡ some (plain k)) ⊎ ((a ≡ none) × (b ≡ some (plain k)))
+  either none b e = inr (refl, e)
+  either (some q) b e = inl e
 
 module _ (request : List ℕ) (lent : Lengths) where
   abbrev h : Header
   h = headerIn request
 
   abbrev ws : List ℕ
-  ws = wordsIn request
+  ws = placedIn request
+
+  abbrev count : ℕ
+  count = length (wordsIn request)
+
+  abbrev last : Option Refusal
+  last = lastRefusal h (wordsIn request)
 
   abbrev public : Option Refusal
-  public = orElse (headerRefusal h) (sizesRefusal h (length ws) lent)
+  public = orElse (headerRefusal h) (sizesRefusal h count lent)
 
-  in-two : (length request ≡ 0 → ⊥) → requestRefusal request lent ≡ orElse public (wordsRefusal h 0 0 ws)
-  in-two some-word = in-order request lent some-word ∙ orElse-assoc (headerRefusal h) _ _
+  in-three : (length request ≡ 0 → ⊥) → requestRefusal request lent ≡ orElse public (orElse (wordsRefusal h 0 0 ws) last)
+  in-three some-word = in-order request lent some-word ∙ orElse-assoc (headerRefusal h) _ _
+
+  -- What is public meets none: the header is accepted.
+  public-fine : (length request ≡ 0 → ⊥) → public ≡ none → AllKept (publicLimits request lent) × Accepted h
+  public-fine some-word met =
+      let (header, sizes) = orElse-none (headerRefusal h) (sizesRefusal h count lent) .0 met in
+      (public-none request lent .1 (some-word, header, sizes), accepted h (sym header))
 
   -- With a header word.
   by-public : (length request ≡ 0 → ⊥) → (number : ℕ)
       → (requestRefusal request lent ≡ some (plain number))
-      ↔ FirstBroken (headerLimits (h .method) (h .vertices) (h .edges) (h .source) ++ sizesLimits (h .method) (h .vertices) (h .edges) (length ws) lent) number
+      ↔ (FirstBroken (headerLimits (h .method) (h .vertices) (h .edges) (h .source) ++ sizesLimits (h .method) (h .vertices) (h .edges) count lent) number
+      ⊎ BrokenLast request lent number)
   by-public some-word number =
-      let agrees = public-agrees h (length ws) lent .broken number in (
-        λ e. agrees .0 (from-first public _ number (words-placed h 0 0 ws) (sym (in-two some-word) ∙ e)),
-        λ b. in-two some-word ∙ rw (agrees .1 b),
+      let agrees = public-agrees h count lent .broken number in (
+        λ e.
+            ⊎-elim (λ (p : public ≡ some (plain number)). inl (agrees .0 p))
+            (λ (p : (public ≡ none) × (orElse (wordsRefusal h 0 0 ws) last ≡ some (plain number))).
+            let (kept, a) = public-fine some-word (p .0) in
+            let (fine, met) = past-placed number (wordsRefusal h 0 0 ws) last (words-placed h 0 0 ws) (p .1) in
+            inr
+            (record {
+              public = kept;
+              words = words-good h a 0 0 ws fine;
+              broken = last-agrees h a (wordsIn request) .broken number .0 met;
+            }))
+            (either number public _ (sym (in-three some-word) ∙ e)),
+        ⊎-elim (λ b. in-three some-word ∙ rw (agrees .1 b))
+            (λ (b : BrokenLast request lent number).
+            let (_, header, sizes) = public-none request lent .0 (b .public) in
+            let a = accepted h (sym header) in
+            in-three some-word
+            ∙ rw (header, sizes, good-words h a 0 0 ws (b .words)) (last-agrees h a (wordsIn request) .broken number .1 (b .broken))),
       )
 
   module _ (number place : ℕ) where
@@ -121,13 +160,13 @@ module _ (request : List ℕ) (lent : Lengths) where
     told-word e =
         let some-word : length request ≡ 0 → ⊥ =
         λ z. true≢false (sym (ap (λ r. r .placed) (Option·some-injective Method (placed number place) (no-word request lent z ∙ e)))) in
-        let (met, words) = from-second public _ number place (public-unplaced h (length ws) lent) (sym (in-two some-word) ∙ e) in
-        let (header, sizes) = orElse-none (headerRefusal h) (sizesRefusal h (length ws) lent) .0 met in
-        let a = accepted h (sym header) in
+        let (met, later) = past-plain number public _ place (public-unplaced h count lent) (sym (in-three some-word) ∙ e) in
+        let words = of-placed number (wordsRefusal h 0 0 ws) last place (last-unplaced h (wordsIn request)) later in
+        let (kept, a) = public-fine some-word met in
         let f = first-from h 0 0 ws (placed number place) words in
         let at : place ≡ f .k = word-place h (f .k) (getD (0 ∷ ws) (f .k) 0) (getD ws (f .k) 0) .holds (placed number place) (f .met (f .k) (omega arith)) in
         record {
-          public = public-none request lent .1 (some-word, header, sizes);
+          public = kept;
           words-before = λ i l. word-agrees h a i (getD (0 ∷ ws) i 0) (getD ws i 0) .kept .0 (f .before i i (omega arith) (omega arith));
           there = omega arith;
           broken = word-agrees h a place (getD (0 ∷ ws) place 0) (getD ws place 0) .broken number .0 (rw (sym at) at (f .met place (omega arith)));
@@ -144,47 +183,58 @@ module _ (request : List ℕ) (lent : Lengths) where
           met = λ p i. let s : p ≡ place = omega arith in rw s (word-agrees h a place (getD (0 ∷ ws) place 0) (getD ws place 0) .broken number .1 (w .broken));
           before = λ j p l i. let s : p ≡ j = omega arith in rw s (word-agrees h a j (getD (0 ∷ ws) j 0) (getD ws j 0) .kept .1 (w .words-before j l));
         } in
-        in-two some-word ∙ rw (header, sizes) (first-met h 0 0 ws (placed number place) first)
+        in-three some-word ∙ rw (header, sizes, first-met h 0 0 ws (placed number place) first)
 
     -- With a place: a word's.
     pub word-refused : (requestRefusal request lent ≡ some (placed number place)) ↔ BrokenAt request lent place number
     word-refused = (told-word, refused-word)
 
--- Without a place: 1 to 8, the first of them for a missing header word, too.
-missing : (number : ℕ) (rest : Type 0) → (some Method ≡ some (plain number)) ↔ (((number ≡ 1) × ¬ (1 ≤ 0)) ⊎ ((1 ≤ 0) × rest))
-missing number rest = (
-  λ e. inl (sym (ap (λ r. r .number) (Option·some-injective Method (plain number) e)), λ l. omega arith),
-  ⊎-elim (λ (f : (number ≡ 1) × ¬ (1 ≤ 0)). rw (f .0)) (λ (r : (1 ≤ 0) × rest). let no : ⊥ = omega (arith, r .0) in absurd no),
-)
+-- Without a place: 1 to 8, the first of them for a missing header word, too, and 16.
+module _ (number : ℕ) (rest last : Type 0) where
+  missing : (last → 1 ≤ 0) → (some Method ≡ some (plain number)) ↔ ((((number ≡ 1) × ¬ (1 ≤ 0)) ⊎ ((1 ≤ 0) × rest)) ⊎ last)
+  missing none-last = (
+    λ e. inl (inl (sym (ap (λ r. r .number) (Option·some-injective Method (plain number) e)), λ l. omega arith)),
+    ⊎-elim
+        (⊎-elim (λ (f : (number ≡ 1) × ¬ (1 ≤ 0)). rw (f .0)) (λ (r : (1 ≤ 0) × rest). let no : ⊥ = omega (arith, r .0) in absurd no))
+        (λ (b : last). let no : ⊥ = omega (arith, none-last b) in absurd no),
+  )
 
-present : (number count : ℕ) (met rest : Type 0) → 1 ≤ count → met ↔ rest → met ↔ (((number ≡ 1) × ¬ (1 ≤ count)) ⊎ ((1 ≤ count) × rest))
-present number count met rest some-word same = (
-  λ e. inr (some-word, same .0 e),
-  ⊎-elim (λ (f : (number ≡ 1) × ¬ (1 ≤ count)). absurd (f .1 some-word)) (λ (r : (1 ≤ count) × rest). same .1 (r .1)),
-)
+  present : (count : ℕ) (met : Type 0) → 1 ≤ count → met ↔ (rest ⊎ last)
+      → met ↔ ((((number ≡ 1) × ¬ (1 ≤ count)) ⊎ ((1 ≤ count) × rest)) ⊎ last)
+  present count met some-word same = (
+    λ e. ⊎-elim (λ (r : rest). inl (inr (some-word, r))) (λ (b : last). inr b) (same .0 e),
+    ⊎-elim
+        (⊎-elim (λ (f : (number ≡ 1) × ¬ (1 ≤ count)). absurd (f .1 some-word)) (λ (r : (1 ≤ count) × rest). same .1 (inl (r .1))))
+        (λ (b : last). same .1 (inr b)),
+  )
 
-pub public-refused : (request : List ℕ) (lent : Lengths) (number : ℕ)
-    → (requestRefusal request lent ≡ some (plain number)) ↔ FirstBroken (publicLimits request lent) number
+pub plain-refused : (request : List ℕ) (lent : Lengths) (number : ℕ)
+    → (requestRefusal request lent ≡ some (plain number)) ↔ (FirstBroken (publicLimits request lent) number ⊎ BrokenLast request lent number)
 unfolding requestRefusal
-public-refused [] lent number = missing number _
-public-refused (w ∷ ws) lent number =
-    present number (length (w ∷ ws)) _ _ (omega arith) (by-public (w ∷ ws) lent (λ z. omega (arith, z)) number)
+plain-refused [] lent number = missing number _ (BrokenLast [] lent number) (λ b. b .public .0)
+plain-refused (w ∷ ws) lent number =
+    present number _ (BrokenLast (w ∷ ws) lent number) (length (w ∷ ws)) _ (omega arith)
+    (by-public (w ∷ ws) lent (λ z. omega (arith, z)) number)
 
 -- Nothing else is met.
-settled-by : (request : List ℕ) (lent : Lengths) (met : Option Refusal) → requestRefusal request lent ≡ met
-    → WithinLimits request lent
+abbrev Settled : (request : List ℕ) (lent : Lengths) → Type 0
+Settled request lent =
+    WithinLimits request lent
     ⊎ ((number : ℕ) × FirstBroken (publicLimits request lent) number)
     ⊎ ((place : ℕ) × (number : ℕ) × BrokenAt request lent place number)
+    ⊎ ((number : ℕ) × BrokenLast request lent number)
+
+settled-by : (request : List ℕ) (lent : Lengths) (met : Option Refusal) → requestRefusal request lent ≡ met → Settled request lent
 settled-by request lent none e = inl (within request lent .0 e)
 settled-by request lent (some r) e =
     ⊎-elim
-    (λ (is : r ≡ plain (r .number)). inr (inl (r .number, public-refused request lent (r .number) .0 (e ∙ ap some is))))
+    (λ (is : r ≡ plain (r .number)).
+    ⊎-elim (λ (b : FirstBroken (publicLimits request lent) (r .number)). inr (inl (r .number, b)))
+    (λ (b : BrokenLast request lent (r .number)). inr (inr (inr (r .number, b))))
+    (plain-refused request lent (r .number) .0 (e ∙ ap some is)))
     (λ (is : r ≡ placed (r .number) (r .place)).
-    inr (inr (r .place, r .number, word-refused request lent (r .number) (r .place) .0 (e ∙ ap some is))))
+    inr (inr (inl (r .place, r .number, word-refused request lent (r .number) (r .place) .0 (e ∙ ap some is)))))
     (request-formed request lent .holds r e)
 
-pub settled : (request : List ℕ) (lent : Lengths)
-    → WithinLimits request lent
-    ⊎ ((number : ℕ) × FirstBroken (publicLimits request lent) number)
-    ⊎ ((place : ℕ) × (number : ℕ) × BrokenAt request lent place number)
+pub settled : (request : List ℕ) (lent : Lengths) → Settled request lent
 settled request lent = settled-by request lent (requestRefusal request lent) refl

@@ -1,17 +1,17 @@
--- What a header asks for, method by method, and which of the refusals 5 to 8 a request meets, by the ways out of `check_sizes`.
--- Rests on the laws of plans and answers' Unmet.
+-- What a header asks for, method by method, and which of the refusals 5 to 8 a request meets, by the ways out of `check_sizes`
+-- and `results_enough`. Rests on the laws of plans and answers' Unmet.
 use mathlib.Core.Path.{_≡_, refl, sym, _∙_}
 use mathlib.Core.Logic.{_↔_}
-use mathlib.Core.Bool.{Bool, true}
+use mathlib.Core.Bool.{Bool, true, false, not}
 use mathlib.Core.Option.{none, some}
 use Prim.Native.Nat.{ℕ, _+_, _*_, _<_, _≤_}
 use native.Mathlib.Omega.{arith}
 use lib.Dec.{leb, eqb, leb→le, le→leb, eqb→eq}
-use borrow.Author.Tests.{eq-eqb, ne-eqb, le-leb, lt-leb}
-use Rattle.answers.specs.Refusal.{Words, Cells, Log, Results}
+use borrow.Author.Tests.{eq-eqb, ne-eqb, le-leb, lt-leb, not-true, not-false}
+use Rattle.answers.specs.Refusal.{Words, Cells, Log, Results, need}
 use Rattle.answers.proofs.Unmet.{first-none}
 use Rattle.plans.specs.declared.Header.{Header}
-use Rattle.plans.specs.Plan.{wordCountOf, cellsOf, Kind, distances, parents, resultsOf, verdictCell, lengthOf}
+use Rattle.plans.specs.Plan.{wordCountOf, cellsOf, Kind, distances, parents, route, everyKind, resultsOf, verdictCell, lengthOf}
 use Rattle.plans.proofs.EachKind.{each-kind, every-kind, not-every}
 use Rattle.planner.specs.declared.Figures.{Figures}
 use Rattle.planner.specs.Figures.{Figured}
@@ -21,17 +21,9 @@ use Rattle.requests.specs.Refusal.{logLengthOf, roomFor, askedOf, sizesT
 -- ---- what the header asks for
 
 module _ (h : Header) where
-  pub words-one : h .method ≡ 1 → h .edges ≡ wordCountOf h
+  pub words-five : h .method ≡ 5 → h .edges + 1 ≡ wordCountOf h
   unfolding wordCountOf
-  words-one e = rw e
-
-  pub words-three : h .method ≡ 3 → h .edges ≡ wordCountOf h
-  unfolding wordCountOf
-  words-three e = rw e
-
-  pub words-two : h .method ≡ 2 → h .vertices * h .vertices ≡ wordCountOf h
-  unfolding wordCountOf
-  words-two e = rw e
+  words-five e = rw e
 
   pub cells-one : h .method ≡ 1 → 3 * h .edges + 3 * h .vertices + 8 ≡ cellsOf h
   unfolding cellsOf
@@ -45,6 +37,10 @@ module _ (h : Header) where
   unfolding cellsOf
   cells-three e = rw e
 
+  pub cells-five : h .method ≡ 5 → 3 * h .edges + 5 * h .vertices + 8 ≡ cellsOf h
+  unfolding cellsOf
+  cells-five e = rw e
+
   -- size is the plan's length, as the code has it.
   pub log-opened : (size cell : ℕ) → size ≡ lengthOf h → some cell ≡ verdictCell h → size + 1 ≡ logLengthOf h
   unfolding logLengthOf
@@ -56,11 +52,11 @@ module _ (h : Header) where
 
 -- As many places of each kind.
 room-asked : (h : Header) (k : Kind) → roomFor (askedOf h) k ≡ resultsOf h k .count
-room-asked h = each-kind _ refl refl
+room-asked h = each-kind _ refl refl refl
 
 -- The lengths asked for, as `lengths_of` has them.
 pub lengths-are : (h : Header) (f : Figures) → Figured h f → (log : ℕ) → log ≡ logLengthOf h
-    → record { cells = f .cells; log = log; distances = f .distances .count; parents = f .parents .count } ≡ askedOf h
+    → record { cells = f .cells; log = log; distances = f .distances .count; parents = f .parents .count; route = f .route .count } ≡ askedOf h
 lengths-are h f is log l =
     λ i.
     record {
@@ -68,6 +64,7 @@ lengths-are h f is log l =
       log = l i;
       distances = is .results-are distances i .count;
       parents = is .results-are parents i .count;
+      route = is .results-are route i .count;
     }
 
 -- ---- none of 5 to 8
@@ -124,30 +121,36 @@ module _ (h : Header) (words : ℕ) (lent : Lengths) (count : ℕ) (count-is : c
       unfolding sizesRefusal
       log-short a = simp (counted, enough-cells, lt-leb (logLengthOf h) (lent .log) (rw asked-is at a))
 
-      module _ (l : asked .log ≤ lent .log) where
-        results-short : (k : Kind) → roomFor lent k < roomFor asked k → some Results ≡ sizesRefusal h words lent
+      -- e is whether every results buffer is long enough.
+      module _ (l : asked .log ≤ lent .log) (e : Bool) (e-is : e ≡ everyKind (λ k. leb (roomFor asked k) (roomFor lent k))) where
+        by-results : sizesRefusal h words lent ≡ need e Results none
         unfolding sizesRefusal
-        results-short k a =
+        by-results =
             simp (
               counted,
               enough-cells,
               le-leb (logLengthOf h) (lent .log) (rw asked-is at l),
-              not-every (λ k. leb (roomFor (askedOf h) k) (roomFor lent k)) k (lt-leb _ _ (rw asked-is at a)),
+              e-is,
+              asked-is,
             )
 
-        pub distances-short : lent .distances < asked .distances → some Results ≡ sizesRefusal h words lent
-        distances-short = results-short distances
+        pub results-short : not e ≡ true → some Results ≡ sizesRefusal h words lent
+        results-short short = rw (by-results, not-true e short)
 
-        pub parents-short : lent .parents < asked .parents → some Results ≡ sizesRefusal h words lent
-        parents-short = results-short parents
+        pub sizes-met : not e ≡ false → none ≡ sizesRefusal h words lent
+        sizes-met enough = rw (by-results, not-false e enough)
 
-        pub sizes-met : asked .distances ≤ lent .distances → asked .parents ≤ lent .parents → none ≡ sizesRefusal h words lent
-        sizes-met d p =
-            sym
-            (sizes-none h words lent .1
-            (record {
-              counted = w ∙ count-is;
-              cells = rw asked-is at c;
-              log = rw asked-is at l;
-              results = each-kind _ (rw asked-is at d) (rw asked-is at p);
-            }))
+-- ---- whether results buffers are long enough, by the ways out of `results_enough`
+
+module _ (asked lent : Lengths) where
+  abbrev enough : Kind → Bool
+  enough k = leb (roomFor asked k) (roomFor lent k)
+
+  pub distances-short : lent .distances < asked .distances → false ≡ everyKind enough
+  distances-short a = sym (not-every enough distances (lt-leb (asked .distances) (lent .distances) a))
+
+  pub parents-short : lent .parents < asked .parents → false ≡ everyKind enough
+  parents-short a = sym (not-every enough parents (lt-leb (asked .parents) (lent .parents) a))
+
+  pub by-route : asked .distances ≤ lent .distances → asked .parents ≤ lent .parents → leb (asked .route) (lent .route) ≡ everyKind enough
+  by-route d p = rw (le-leb (asked .distances) (lent .distances) d, le-leb (asked .parents) (lent .parents) p)

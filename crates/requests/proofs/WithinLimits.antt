@@ -10,6 +10,7 @@ use native.Mathlib.Omega.{arith}
 use lib.Dec.{leb→le}
 use lib.IntN.{ℤ, pos, negsuc, natAbs}
 use lib.ListN.{length, getD}
+use lib.Seq.{length-take-le, getD-take}
 use lib.Signed.{_≤ℤ_}
 use Rattle.answers.specs.Refusal.{Method, orElse}
 use Rattle.answers.proofs.Unmet.{orElse-none}
@@ -18,12 +19,12 @@ use Rattle.plans.specs.Plan.{Accepted, wordCountOf, cellsOf, Kind, resultsOf}
 use Rattle.planner.specs.Refusal.{headerRefusal}
 use Rattle.planner.proofs.Headers.{accepted}
 use Rattle.requests.specs.declared.Lengths.{Lengths}
-use Rattle.requests.specs.Word.{fromField, toField, weightOf}
-use Rattle.requests.specs.Refusal.{logLengthOf, roomFor, sizesRefusal, wordRefusal, wordsRefusal, requestRefusal}
-use Rattle.requests.specs.WithinLimits.{headerIn, wordsIn, AllKept, publicLimits, edgeLimits, orderLimits, entryLimits, wordLimits, WithinLimits}
-use Rattle.requests.proofs.Sizes.{words-one, words-two, words-three, Sized, sizes-none}
-use Rattle.requests.proofs.Order.{no-word, in-order}
-use Rattle.requests.proofs.Limits.{public-agrees, word-agrees}
+use Rattle.requests.specs.Word.{placedCount, destinationIn, fromField, toField, weightOf}
+use Rattle.requests.specs.Refusal.{logLengthOf, roomFor, sizesRefusal, wordRefusal, wordsRefusal, lastRefusal, requestRefusal}
+use Rattle.requests.specs.WithinLimits.{headerIn, wordsIn, placedIn, AllKept, publicLimits, edgeLimits, orderLimits, entryLimits, wordLimits, lastOf, WithinLimits}
+use Rattle.requests.proofs.Sizes.{Sized, sizes-none}
+use Rattle.requests.proofs.Order.{placed-few, no-word, in-order}
+use Rattle.requests.proofs.Limits.{public-agrees, word-agrees, last-agrees}
 
 -- ---- the words
 
@@ -31,7 +32,7 @@ use Rattle.requests.proofs.Limits.{public-agrees, word-agrees}
 abbrev Good : Header → (before : ℕ) → List ℕ → Type 0
 Good h before ws = (i : ℕ) → i < length ws → AllKept (wordLimits (h .method) (h .vertices) (getD (before ∷ ws) i 0) (getD ws i 0))
 
-words-good : (h : Header) → Accepted h → (place before : ℕ) (ws : List ℕ) → wordsRefusal h place before ws ≡ none → Good h before ws
+pub words-good : (h : Header) → Accepted h → (place before : ℕ) (ws : List ℕ) → wordsRefusal h place before ws ≡ none → Good h before ws
 unfolding wordsRefusal
 words-good h a place before [] e i l = absurd (not-suc-le-zero l)
 words-good h a place before (w ∷ ws) e zero l =
@@ -40,7 +41,7 @@ words-good h a place before (w ∷ ws) e (suc i) l =
     words-good h a (suc place) w ws
     (orElse-none (wordRefusal h place before w) (wordsRefusal h (suc place) w ws) .0 e .1) i (le-of-suc-le-suc l)
 
-good-words : (h : Header) → Accepted h → (place before : ℕ) (ws : List ℕ) → Good h before ws → wordsRefusal h place before ws ≡ none
+pub good-words : (h : Header) → Accepted h → (place before : ℕ) (ws : List ℕ) → Good h before ws → wordsRefusal h place before ws ≡ none
 unfolding wordsRefusal
 good-words h a place before [] g = refl
 good-words h a place before (w ∷ ws) g =
@@ -68,28 +69,41 @@ module _ (request : List ℕ) (lent : Lengths) where
   -- Where it has a header word.
   pub all-none : (length request ≡ 0 → ⊥)
       → (requestRefusal request lent ≡ none)
-      ↔ ((headerRefusal h ≡ none) × (sizesRefusal h count lent ≡ none) × (wordsRefusal h 0 0 (wordsIn request) ≡ none))
+      ↔ ((headerRefusal h ≡ none)
+      × (sizesRefusal h count lent ≡ none)
+      × (wordsRefusal h 0 0 (placedIn request) ≡ none)
+      × (lastRefusal h (wordsIn request) ≡ none))
   all-none n =
-      let words = wordsRefusal h 0 0 (wordsIn request) in
+      let words = wordsRefusal h 0 0 (placedIn request) in
+      let last = lastRefusal h (wordsIn request) in
       let all = in-order request lent n in
-      let outer = orElse-none (headerRefusal h) (orElse (sizesRefusal h count lent) words) in
-      let inner = orElse-none (sizesRefusal h count lent) words in (
-        λ e. let (a, p) = outer .0 (sym all ∙ e) in let (b, c) = inner .0 p in (a, b, c),
-        λ p. all ∙ outer .1 (p .0, inner .1 (p .1, p .2)),
+      let outer = orElse-none (headerRefusal h) (orElse (sizesRefusal h count lent) (orElse words last)) in
+      let middle = orElse-none (sizesRefusal h count lent) (orElse words last) in
+      let inner = orElse-none words last in (
+        λ e. let (a, p) = outer .0 (sym all ∙ e) in let (b, q) = middle .0 p in let (c, d) = inner .0 q in (a, b, c, d),
+        λ p. all ∙ outer .1 (p .0, middle .1 (p .1, inner .1 (p .2, p .3))),
       )
 
   pub within : (requestRefusal request lent ≡ none) ↔ WithinLimits request lent
   within = (
     λ e.
         let some-word : length request ≡ 0 → ⊥ = λ z. Option·some-ne-none Method (no-word request lent z ∙ e) in
-        let (header, sizes, words) = all-none some-word .0 e in
+        let (header, sizes, words, last) = all-none some-word .0 e in
+        let a = accepted h (sym header) in
         record {
           public = public-none .1 (some-word, header, sizes);
-          words = words-good h (accepted h (sym header)) 0 0 (wordsIn request) words;
+          words = words-good h a 0 0 (placedIn request) words;
+          last = last-agrees h a (wordsIn request) .kept .0 last;
         },
     λ w.
         let (some-word, header, sizes) = public-none .0 (w .public) in
-        all-none some-word .1 (header, sizes, good-words h (accepted h (sym header)) 0 0 (wordsIn request) (w .words)),
+        let a = accepted h (sym header) in
+        all-none some-word .1 (
+          header,
+          sizes,
+          good-words h a 0 0 (placedIn request) (w .words),
+          last-agrees h a (wordsIn request) .kept .1 (w .last),
+        ),
   )
 
   -- ---- what a request within the limits has, by the definitions that the code's contracts cite
@@ -129,31 +143,65 @@ edge-within : (n word : ℕ) (more : List (ℕ × Type 0)) → AllKept (edgeLimi
 edge-within n word more (_, (from, (to, (weight, _)))) =
     record { from-below = from; to-below = to; weight-most = either-way (weightOf word) (weight .0) (weight .1) }
 
-module _ (request : List ℕ) (lent : Lengths) (w : WithinLimits request lent) (i : ℕ) where
-  abbrev word : ℕ
-  word = getD (wordsIn request) i 0
+-- A place for each edge.
+edges-placed : (method n m : ℕ) → (method ≡ 1) ⊎ (method ≡ 3) ⊎ (method ≡ 5) → placedCount method n m ≡ m
+edges-placed method n m (inl one) = rw one
+edges-placed method n m (inr (inl three)) = rw three
+edges-placed method n m (inr (inr five)) = rw five
 
-  -- Methods 1 and 3: word i is an edge's.
-  pub edge-in : (headerIn request .method ≡ 1) ⊎ (headerIn request .method ≡ 3) → i < headerIn request .edges → EdgeWithin (headerIn request .vertices) word
-  edge-in (inl one) l =
-      let there : i < length (wordsIn request) = omega (arith, words-one (headerIn request) one, counted-in _ _ w) in
-      edge-within _ word [] (rw one at (w .words i there))
-  edge-in (inr three) l =
-      let there : i < length (wordsIn request) = omega (arith, words-three (headerIn request) three, counted-in _ _ w) in
-      edge-within _ word (orderLimits (getD (0 ∷ wordsIn request) i 0) word) (rw three at (w .words i there))
+-- By the method, whatever comes before a word.
+module _ (method n before word : ℕ) (kept : AllKept (wordLimits method n before word)) where
+  as-edge : (method ≡ 1) ⊎ (method ≡ 3) ⊎ (method ≡ 5) → EdgeWithin n word
+  as-edge (inl one) = edge-within n word [] (rw one at kept)
+  as-edge (inr (inl three)) = edge-within n word (orderLimits before word) (rw three at kept)
+  as-edge (inr (inr five)) = edge-within n word [] (rw five at kept)
+
+  as-sorted : method ≡ 3 → toField before ≤ toField word
+  as-sorted three =
+      let all : AllKept (edgeLimits n word (orderLimits before word)) = rw three at kept in
+      let (_, (_, (_, (_, (order, _))))) = all in order
+
+  as-entry : method ≡ 2 → (weightOf word ≡ negsuc 0) ⊎ ((pos 0 ≤ℤ weightOf word) × (weightOf word ≤ℤ pos 1000000))
+  as-entry two =
+      let all : AllKept (entryLimits word) = rw two at kept in
+      let (_, (weight, _)) = all in weight
+
+module _ (request : List ℕ) (lent : Lengths) (w : WithinLimits request lent) where
+  abbrev header : Header
+  header = headerIn request
+
+  -- Method 5: the destination.
+  pub destination-in : header .method ≡ 5 → destinationIn header (wordsIn request) < header .vertices
+  destination-in five =
+      let kept : AllKept (lastOf 5 (header .vertices) (destinationIn header (wordsIn request))) = rw five at (w .last) in
+      kept .0
+
+  module _ (i : ℕ) where
+    abbrev word : ℕ
+    word = getD (wordsIn request) i 0
+
+    -- The word at a place is that of the request, and keeps its limits.
+    module _ (there : i < placedCount (header .method) (header .vertices) (header .edges)) where
+      placed-word : getD (placedIn request) i 0 ≡ word
+      placed-word = getD-take _ (wordsIn request) i 0 there
+
+      kept-at : AllKept (wordLimits (header .method) (header .vertices) (getD (0 ∷ placedIn request) i 0) word)
+      kept-at =
+          let count = placedCount (header .method) (header .vertices) (header .edges) in
+          let all : length (placedIn request) ≡ count =
+          length-take-le count (wordsIn request) (omega (arith, counted-in _ _ w, placed-few header (accepted-in _ _ w))) in
+          rw placed-word at (w .words i (omega (arith, all)))
+
+    -- Methods 1, 3 and 5: word i is an edge's.
+    pub edge-in : (header .method ≡ 1) ⊎ (header .method ≡ 3) ⊎ (header .method ≡ 5) → i < header .edges → EdgeWithin (header .vertices) word
+    edge-in e l = as-edge _ _ _ word (kept-at (rw (edges-placed (header .method) (header .vertices) (header .edges) e) l)) e
+
+    -- Method 2: word i is an entry's.
+    pub entry-in : header .method ≡ 2 → i < header .vertices * header .vertices
+        → (weightOf word ≡ negsuc 0) ⊎ ((pos 0 ≤ℤ weightOf word) × (weightOf word ≤ℤ pos 1000000))
+    entry-in two l = as-entry _ _ _ word (kept-at (rw two l)) two
 
   -- Method 3: the next one's to-vertex is not below it.
-  pub sorted-in : headerIn request .method ≡ 3 → suc i < headerIn request .edges → toField word ≤ toField (getD (wordsIn request) (suc i) 0)
-  sorted-in three l =
-      let there : suc i < length (wordsIn request) = omega (arith, words-three (headerIn request) three, counted-in _ _ w) in
-      let next = getD (wordsIn request) (suc i) 0 in
-      let kept : AllKept (edgeLimits (headerIn request .vertices) next (orderLimits word next)) = rw three at (w .words (suc i) there) in
-      let (_, (_, (_, (_, (order, _))))) = kept in order
-
-  -- Method 2: word i is an entry's.
-  pub entry-in : headerIn request .method ≡ 2 → i < headerIn request .vertices * headerIn request .vertices
-      → (weightOf word ≡ negsuc 0) ⊎ ((pos 0 ≤ℤ weightOf word) × (weightOf word ≤ℤ pos 1000000))
-  entry-in two l =
-      let there : i < length (wordsIn request) = omega (arith, words-two (headerIn request) two, counted-in _ _ w) in
-      let kept : AllKept (entryLimits word) = rw two at (w .words i there) in
-      let (_, (weight, _)) = kept in weight
+  pub sorted-in : (i : ℕ) → header .method ≡ 3 → suc i < header .edges → toField (word i) ≤ toField (word (suc i))
+  sorted-in i three l =
+      rw (placed-word i (rw three (omega arith))) at (as-sorted _ _ _ (word (suc i)) (kept-at (suc i) (rw three l)) three)

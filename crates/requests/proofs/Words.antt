@@ -4,26 +4,28 @@ use mathlib.Core.Path.{_≡_, refl, sym, ap, _∙_}
 use mathlib.Core.Bool.{Bool, true, false, not}
 use mathlib.Core.List.{List, []}
 use mathlib.Core.Option.{none, some}
-use Prim.Native.Nat.{ℕ, suc, _+_, _-_, _^_, _<_, _≤_}
+use Prim.Native.Nat.{ℕ, suc, _+_, _-_, _*_, _^_, _<_, _≤_}
 use native.Mathlib.Omega.{arith}
 use lib.Dec.{ltb, leb}
 use lib.IntN.{ℤ, pos, negsuc}
 use lib.ListN.{length, getD, drop, drop-of-length-le}
+use lib.Seq.{getD-drop}
 use lib.Signed.{ltZ, leZ, mag}
 use borrow.Author.Tests.{lt-ltb, le-ltb, le-leb, lt-leb, ltb-true, ltb-false, eq-eqb, ne-eqb}
 use Rattle.answers.specs.declared.Refusal.{Refusal}
 use Rattle.answers.specs.declared.Checked.{Checked}
 use Rattle.answers.specs.declared.Checked.the-variants.{Accepted, Refused}
-use Rattle.answers.specs.Refusal.{SpareBits, Weight, FromVertex, ToVertex, Unsorted, need, found, orElse}
+use Rattle.answers.specs.Refusal.{SpareBits, Weight, FromVertex, ToVertex, Unsorted, Destination, need, found, orElse}
 use Rattle.answers.proofs.Filled.{next}
 use Rattle.answers.proofs.Unmet.{first-append}
 use Rattle.machine.proofs.Tested.{back, kept}
 use Rattle.plans.specs.declared.Header.{Header}
 use Rattle.plans.specs.Limits.{mostWeight, leastWeight, noEdge}
 use Rattle.plans.specs.Plan as Plan
-use Rattle.planner.proofs.Figured.{method-three}
-use Rattle.requests.specs.Word.{fromField, toField, spareOfEdge, spareOfEntry, weightOf}
-use Rattle.requests.specs.Refusal.{inRange, edgeTests, edgeRefusal, orderTests, sortedRefusal, entryRefusal, wordRefusal, wordsRefusal}
+use Rattle.plans.proofs.Headers.{by-method}
+use Rattle.planner.proofs.Figured.{method-five}
+use Rattle.requests.specs.Word.{placedCount, fromField, toField, spareOfEdge, spareOfEntry, weightOf}
+use Rattle.requests.specs.Refusal.{inRange, edgeTests, edgeRefusal, orderTests, sortedRefusal, entryRefusal, wordRefusal, wordsRefusal, lastRefusal}
 
 -- ---- the weight
 
@@ -117,10 +119,45 @@ module _ (h : Header) (place before w : ℕ) (s : Checked) where
   unfolding wordRefusal
   an-entry two is = rw (two, is)
 
-  pub a-sorted-edge : Plan.Accepted h → (h .method ≡ 1 → ⊥) → (h .method ≡ 2 → ⊥)
-      → found s ≡ sortedRefusal (h .vertices) place before w → found s ≡ wordRefusal h place before w
+  pub a-sorted-edge : h .method ≡ 3 → found s ≡ sortedRefusal (h .vertices) place before w → found s ≡ wordRefusal h place before w
   unfolding wordRefusal
-  a-sorted-edge a one two is = rw (method-three h a one two, is)
+  a-sorted-edge three is = rw (three, is)
+
+  pub a-routed-edge : Plan.Accepted h → (h .method ≡ 1 → ⊥) → (h .method ≡ 2 → ⊥) → (h .method ≡ 3 → ⊥)
+      → found s ≡ edgeRefusal (h .vertices) place w → found s ≡ wordRefusal h place before w
+  unfolding wordRefusal
+  a-routed-edge a one two three is = rw (method-five h a one two three, is)
+
+-- ---- how many words have a place, and what comes after them, by the ways out of `placed_count` and `check_last`
+
+module _ (h : Header) where
+  pub placed-entries : h .method ≡ 2 → h .vertices * h .vertices ≡ placedCount (h .method) (h .vertices) (h .edges)
+  placed-entries two = rw two
+
+  pub placed-edges : Plan.Accepted h → (h .method ≡ 2 → ⊥) → h .edges ≡ placedCount (h .method) (h .vertices) (h .edges)
+  placed-edges =
+      by-method (λ h. (h .method ≡ 2 → ⊥) → h .edges ≡ placedCount (h .method) (h .vertices) (h .edges))
+      (λ n m source a two. refl) (λ n source a two. absurd (two refl)) (λ n m source a two. refl) (λ n m source a two. refl) h
+
+  pub no-destination : Plan.Accepted h → (h .method ≡ 5 → ⊥) → (ws : List ℕ) → none ≡ lastRefusal h ws
+  unfolding lastRefusal
+  no-destination =
+      by-method (λ h. (h .method ≡ 5 → ⊥) → (ws : List ℕ) → none ≡ lastRefusal h ws)
+      (λ n m source a five ws. refl) (λ n source a five ws. refl) (λ n m source a five ws. refl)
+      (λ n m source a five ws. absurd (five refl)) h
+
+  module _ (request : List ℕ) (five : h .method ≡ 5) where
+    by-destination : need (ltb (getD request (h .edges + 1) 0) (h .vertices)) Destination none ≡ lastRefusal h (drop 1 request)
+    unfolding lastRefusal
+    by-destination =
+        let at : h .edges + 1 ≡ 1 + h .edges = omega arith in
+        rw (five, getD-drop 1 request (h .edges) 0, at)
+
+    pub destination-high : h .vertices ≤ getD request (h .edges + 1) 0 → some Destination ≡ lastRefusal h (drop 1 request)
+    destination-high l = rw (← by-destination, le-ltb (getD request (h .edges + 1) 0) (h .vertices) l)
+
+    pub destination-there : getD request (h .edges + 1) 0 < h .vertices → none ≡ lastRefusal h (drop 1 request)
+    destination-there l = rw (← by-destination, lt-ltb (getD request (h .edges + 1) 0) (h .vertices) l)
 
 -- ---- the words of a request in their order
 

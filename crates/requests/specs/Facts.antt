@@ -1,4 +1,4 @@
--- Document 01, "Request words" and "Who caused it", and asks 1 and 3 of document 02, as facts about literal requests and buffer lengths: limits at
+-- Document 01, "Request words" and "Who caused it", and asks 1, 3 and 5 of document 02, as facts about literal requests and buffer lengths: limits at
 -- their ends and one past them, and which of several refusals comes first. Rests on the definitions alone.
 use mathlib.Core.Path.{_≡_}
 use mathlib.Core.List.{List, [], _∷_}
@@ -21,11 +21,16 @@ met none = noRefusal
 met (some r) = refused r
 
 -- A request with buffers of these lengths.
-abbrev pub lengths : (cells log distances parents : ℕ) → Lengths
-lengths cells log distances parents = record { cells = cells; log = log; distances = distances; parents = parents }
+abbrev pub lengths : (cells log distances parents route : ℕ) → Lengths
+lengths cells log distances parents route =
+    record { cells = cells; log = log; distances = distances; parents = parents; route = route }
 
+abbrev pub routed : (request : List ℕ) (cells log distances parents route : ℕ) → Told
+routed request cells log distances parents route = met (requestRefusal request (lengths cells log distances parents route))
+
+-- With no places for a route, which are looked at in method 5 alone.
 abbrev pub tried : (request : List ℕ) (cells log distances parents : ℕ) → Told
-tried request cells log distances parents = met (requestRefusal request (lengths cells log distances parents))
+tried request cells log distances parents = routed request cells log distances parents 0
 
 -- Method 1, n = 2, source 0, of one edge; method 2, n = 1: with buffers just long enough.
 abbrev pub edge : (word : ℕ) → Told
@@ -43,6 +48,13 @@ two w u = tried (0x3000030000200000 ∷ w ∷ u ∷ []) 45 154 3 3
 
 abbrev pub three : (first second third : ℕ) → Told
 three w u x = tried (0x3000030000300000 ∷ w ∷ u ∷ x ∷ []) 55 210 3 3
+
+-- Method 5, n = 2, source 0, of one edge and a destination, and of two edges: with buffers just long enough.
+abbrev pub aimed : (edge destination : ℕ) → Told
+aimed w z = routed (0x5000020000100000 ∷ w ∷ z ∷ []) 21 63 2 2 1
+
+abbrev pub aimed2 : (first second destination : ℕ) → Told
+aimed2 w u z = routed (0x5000020000200000 ∷ w ∷ u ∷ z ∷ []) 24 105 2 2 1
 
 pub record Facts : Type 0 where
   -- "from 8, to 8, spare 16 (zero), price 32": "13 when the from-yard is not below n, 14 when the to-yard is not below n", of 2 yards and of 32.
@@ -95,14 +107,26 @@ pub record Facts : Type 0 where
       × (tried (0x3000020000100000 ∷ 0 ∷ []) 28 55 1 2 ≡ byNumber 8)
       × (tried (0x3000020000100000 ∷ 0 ∷ []) 28 55 2 1 ≡ byNumber 8)
       × (tried (0x3000020000100000 ∷ 0 ∷ []) 29 56 3 3 ≡ noRefusal)
-  -- Methods 1's and 3's "log is one word longer" than the plan, at the limits; method 2's is not.
+  -- Ask 5: "5 expects m+1 words; 8 also when the route buffer is shorter than n-1": one less and one more than asked, and one yard.
+  pub sizes5 : (routed (0x5000020000100000 ∷ 0 ∷ []) 21 63 2 2 1 ≡ byNumber 5)
+      × (routed (0x5000020000100000 ∷ 0 ∷ 0 ∷ 0 ∷ []) 21 63 2 2 1 ≡ byNumber 5)
+      × (routed (0x5000020000100000 ∷ 0 ∷ 0 ∷ []) 20 63 2 2 1 ≡ byNumber 6)
+      × (routed (0x5000020000100000 ∷ 0 ∷ 0 ∷ []) 21 62 2 2 1 ≡ byNumber 7)
+      × (routed (0x5000020000100000 ∷ 0 ∷ 0 ∷ []) 21 63 1 2 1 ≡ byNumber 8)
+      × (routed (0x5000020000100000 ∷ 0 ∷ 0 ∷ []) 21 63 2 1 1 ≡ byNumber 8)
+      × (routed (0x5000020000100000 ∷ 0 ∷ 0 ∷ []) 21 63 2 2 0 ≡ byNumber 8)
+      × (routed (0x5000020000100000 ∷ 0 ∷ 0 ∷ []) 22 64 3 3 2 ≡ noRefusal)
+      × (routed (0x5000010000000000 ∷ 0 ∷ []) 13 10 1 1 0 ≡ noRefusal)
+  -- Methods 1's, 3's and 5's "log is one word longer" than the plan, at the limits; method 2's is not.
   pub logs : (logLengthOf (headerOf 0x100020000800001F) ≡ 1060837)
       × (logLengthOf (headerOf 0x200020000000001F) ≡ 44227)
       × (logLengthOf (headerOf 0x300020000800001F) ≡ 437222)
+      × (logLengthOf (headerOf 0x500020000800001F) ≡ 1072197)
   -- What a caller is told to lend: the most of each method; a second word is not looked at. And no header word, a source that is not below n.
-  pub asked : (sizesTold (0x100020000800001F ∷ []) ≡ asking (lengths 488 1060837 32 32))
-      × (sizesTold (0x200020000000001F ∷ 0 ∷ []) ≡ asking (lengths 1190 44227 32 32))
-      × (sizesTold (0x300020000800001F ∷ []) ≡ asking (lengths 8874 437222 32 32))
+  pub asked : (sizesTold (0x100020000800001F ∷ []) ≡ asking (lengths 488 1060837 32 32 0))
+      × (sizesTold (0x200020000000001F ∷ 0 ∷ []) ≡ asking (lengths 1190 44227 32 32 0))
+      × (sizesTold (0x300020000800001F ∷ []) ≡ asking (lengths 8874 437222 32 32 0))
+      × (sizesTold (0x500020000800001F ∷ []) ≡ asking (lengths 552 1072197 32 32 31))
       × (sizesTold [] ≡ byNumber 1)
       × (sizesTold (0x1000200008000020 ∷ []) ≡ byNumber 4)
   -- "Order: 1 to 8 by number, then input words": requests that would meet two neighbours, or all, meet the lower.
@@ -149,6 +173,23 @@ pub record Facts : Type 0 where
       × (two 0x0002000000000000 0x0301000000000000 ≡ atPlace 13 1)
       × (two 0x0002000000000000 0x00010000000F4241 ≡ atPlace 11 1)
       × (two 0x0002000000000000 0x0003000000000000 ≡ atPlace 14 1)
+  -- Ask 5: "16, without place, .. when the destination word is not below n": of 2 yards, all 64 bits of the word, and of a request without lanes.
+  pub destinations : (aimed 0 0 ≡ noRefusal)
+      × (aimed 0 1 ≡ noRefusal)
+      × (aimed 0 2 ≡ byNumber 16)
+      × (aimed 0 0x0000000100000000 ≡ byNumber 16)
+      × (aimed 0 0x8000000000000000 ≡ byNumber 16)
+      × (aimed 0 0xFFFFFFFFFFFFFFFF ≡ byNumber 16)
+      × (routed (0x5000020000000000 ∷ 1 ∷ []) 18 21 2 2 1 ≡ noRefusal)
+      × (routed (0x5000020000000000 ∷ 2 ∷ []) 18 21 2 2 1 ≡ byNumber 16)
+  -- "after all lanes": with each fault of a lane, the last one's too; and after 8.
+  pub destination-last : (aimed 0x0000000100000000 2 ≡ atPlace 10 0)
+      × (aimed 0x0200000000000000 2 ≡ atPlace 13 0)
+      × (aimed 0x0002000000000000 2 ≡ atPlace 14 0)
+      × (aimed 0x00000000000F4241 2 ≡ atPlace 11 0)
+      × (aimed2 0 0x0002000000000000 2 ≡ atPlace 14 1)
+      × (aimed2 0x0001000000000000 0 1 ≡ noRefusal)
+      × (routed (0x5000020000100000 ∷ 0 ∷ 2 ∷ []) 21 63 2 2 0 ≡ byNumber 8)
   -- "10 before 11" in a table word.
   pub entry-faults : entry 0x00000001000F4241 ≡ atPlace 10 0
   -- "upward from place 0"; "places count from the word after the header".

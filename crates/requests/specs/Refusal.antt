@@ -1,5 +1,5 @@
 -- Which refusal a request meets first: 1 to 8 by number, then its words upward (document 01, "Who caused it"), in each spare bits, ends, weight
--- and order (document 02, asks 1 and 3). Rests on headers, plans and refusals.
+-- and order (document 02, asks 1 and 3), then the destination (ask 5). Rests on headers, plans and refusals.
 use mathlib.Core.Bool.{Bool, _&&_}
 use mathlib.Core.List.{List, [], _∷_}
 use mathlib.Core.Option.{Option, none, some}
@@ -9,13 +9,13 @@ use lib.IntN.{ℤ, pos}
 use lib.ListN.{length}
 use lib.Signed.{leZ}
 use Rattle.answers.specs.declared.Refusal.{Refusal}
-use Rattle.answers.specs.Refusal.{Method, Words, Cells, Log, Results, SpareBits, Weight, FromVertex, ToVertex, Unsorted, firstOf, orElse}
+use Rattle.answers.specs.Refusal.{Method, Words, Cells, Log, Results, SpareBits, Weight, FromVertex, ToVertex, Unsorted, Destination, firstOf, orElse}
 use Rattle.plans.specs.declared.Header.{Header}
 use Rattle.plans.specs.Limits.{byMethod, mostWeight, leastWeight, noEdge}
-use Rattle.plans.specs.Plan.{headerOf, wordCountOf, cellsOf, Kind, distances, parents, byKind, everyKind, resultsOf, verdictCell, published, lengthOf}
+use Rattle.plans.specs.Plan.{headerOf, wordCountOf, cellsOf, Kind, distances, parents, route, byKind, everyKind, resultsOf, verdictCell, published, lengthOf}
 use Rattle.planner.specs.Refusal.{headerRefusal}
 use Rattle.requests.specs.declared.Lengths.{Lengths}
-use Rattle.requests.specs.Word.{fromField, toField, spareOfEdge, spareOfEntry, weightOf}
+use Rattle.requests.specs.Word.{placedWords, destinationIn, fromField, toField, spareOfEdge, spareOfEntry, weightOf}
 
 -- ---- sizes
 
@@ -25,7 +25,7 @@ logLengthOf h = lengthOf h + length (published (verdictCell h) 0)
 
 -- The length of the buffer for a kind of results.
 abbrev pub roomFor : Lengths → Kind → ℕ
-roomFor l = byKind (l .distances) (l .parents)
+roomFor l = byKind (l .distances) (l .parents) (l .route)
 
 -- The lengths that a header asks for.
 abbrev pub askedOf : Header → Lengths
@@ -35,6 +35,7 @@ askedOf h =
       log = logLengthOf h;
       distances = resultsOf h distances .count;
       parents = resultsOf h parents .count;
+      route = resultsOf h route .count;
     }
 
 -- 6 to 8: a lent buffer is shorter than asked.
@@ -88,12 +89,24 @@ entryRefusal place w = firstOf (entryTests place w)
 unfoldable pub wordRefusal : (h : Header) (place before w : ℕ) → Option Refusal
 wordRefusal h place before w =
     byMethod (h .method) none
-    (edgeRefusal (h .vertices) place w ∷ entryRefusal place w ∷ sortedRefusal (h .vertices) place before w ∷ [])
+    (edgeRefusal (h .vertices) place w
+    ∷ entryRefusal place w
+    ∷ sortedRefusal (h .vertices) place before w
+    ∷ edgeRefusal (h .vertices) place w
+    ∷ [])
 
 -- The first refusal of words, the first of which is at `place`.
 unfoldable pub wordsRefusal : (h : Header) (place before : ℕ) → List ℕ → Option Refusal
 wordsRefusal h place before [] = none
 wordsRefusal h place before (w ∷ ws) = orElse (wordRefusal h place before w) (wordsRefusal h (suc place) w ws)
+
+-- What is tested after them, and told without a place: that method 5's destination is below n (16).
+abbrev pub lastTests : Header → List ℕ → List (Bool × Refusal)
+lastTests h ws =
+    byMethod (h .method) [] ([] ∷ [] ∷ [] ∷ ((ltb (destinationIn h ws) (h .vertices), Destination) ∷ []) ∷ [])
+
+unfoldable pub lastRefusal : Header → List ℕ → Option Refusal
+lastRefusal h ws = firstOf (lastTests h ws)
 
 -- ---- the request
 
@@ -101,4 +114,6 @@ wordsRefusal h place before (w ∷ ws) = orElse (wordRefusal h place before w) (
 unfoldable pub requestRefusal : (request : List ℕ) → (lent : Lengths) → Option Refusal
 requestRefusal [] lent = some Method
 requestRefusal (w ∷ ws) lent =
-    orElse (headerRefusal (headerOf w)) (orElse (sizesRefusal (headerOf w) (length ws) lent) (wordsRefusal (headerOf w) 0 0 ws))
+    let h = headerOf w in
+    orElse (headerRefusal h)
+    (orElse (sizesRefusal h (length ws) lent) (orElse (wordsRefusal h 0 0 (placedWords h ws)) (lastRefusal h ws)))

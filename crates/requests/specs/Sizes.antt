@@ -15,7 +15,7 @@ use Rattle.requests.specs.Refusal.{askedOf}
 
 -- Cells, words of the log, and places of the results buffers, kind by kind.
 abbrev pub asking : Lengths → Told
-asking l = record { number = 0; place = none; values = l .cells ∷ l .log ∷ l .distances ∷ l .parents ∷ [] }
+asking l = record { number = 0; place = none; values = l .cells ∷ l .log ∷ l .distances ∷ l .parents ∷ l .route ∷ [] }
 
 -- What an answer says.
 abbrev pub toldBySizes : Asked → Told

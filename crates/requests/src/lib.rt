@@ -7,13 +7,15 @@ use planner::VerdictCell;
 use plans::Header;
 ghost use mathlib.Core.Path.{_≡_};
 ghost use Prim.Native.Nat.{_<_};
+ghost use lib.Dec.{leb};
 ghost use lib.ListN.{length, drop};
 ghost use mathlib.Core.Option.{none};
 ghost use Rattle.answers.specs.Refusal.{Weight, need, found};
-ghost use Rattle.plans.specs.Plan.{Accepted};
+ghost use Rattle.plans.specs.Plan.{Accepted, wordCountOf, everyKind};
 ghost use Rattle.planner.specs.Figures.{Figured};
 ghost use Rattle.requests.specs.Word as Word;
-ghost use Rattle.requests.specs.Refusal.{logLengthOf, askedOf, sizesRefusal, inRange, edgeRefusal, sortedRefusal, entryRefusal, wordRefusal, wordsRefusal, requestRefusal};
+ghost use Rattle.requests.specs.Word.{placedCount};
+ghost use Rattle.requests.specs.Refusal.{logLengthOf, roomFor, askedOf, sizesRefusal, inRange, edgeRefusal, sortedRefusal, entryRefusal, wordRefusal, wordsRefusal, lastRefusal, requestRefusal};
 ghost use Rattle.requests.specs.Sizes.{toldBySizes, sizesTold};
 
 // Lengths of a request's buffers, lent or asked for: cells, words of the log, and places of the results buffers, kind by kind.
@@ -22,6 +24,7 @@ pub struct Lengths {
     pub log: usize,
     pub distances: usize,
     pub parents: usize,
+    pub route: usize,
 }
 
 pub enum Asked {
@@ -53,6 +56,7 @@ fn lengths_of(h: Header, f: Figures) -> Lengths
         log: log_length(h, f),
         distances: f.distances.count,
         parents: f.parents.count,
+        route: f.route.count,
     }
 }
 
@@ -73,6 +77,19 @@ pub fn sizes_needed(header: &[u64]) -> Asked
 
 // ---- refusals
 
+// Whether no results buffer is shorter than asked.
+fn results_enough(asked: Lengths, lent: Lengths) -> bool
+    ensures { λ r. ⌜ r ≡ everyKind (λ k. leb (roomFor asked k) (roomFor lent k)) ⌝ }
+{
+    if lent.distances < asked.distances {
+        return false;
+    }
+    if lent.parents < asked.parents {
+        return false;
+    }
+    asked.route <= lent.route
+}
+
 // 5 to 8.
 fn check_sizes(h: Header, words: usize, lent: Lengths) -> Checked
     requires { ⌜ Accepted h ⌝ }
@@ -89,10 +106,7 @@ fn check_sizes(h: Header, words: usize, lent: Lengths) -> Checked
     if lent.log < asked.log {
         return Checked::Refused(answers::LOG);
     }
-    if lent.distances < asked.distances {
-        return Checked::Refused(answers::RESULTS);
-    }
-    if lent.parents < asked.parents {
+    if !results_enough(asked, lent) {
         return Checked::Refused(answers::RESULTS);
     }
     Checked::Accepted
@@ -167,11 +181,12 @@ fn check_word(h: Header, place: usize, before: u64, word: u64) -> Checked
     match method {
         1 => check_edge(h.vertices, place, word),
         2 => check_entry(place, word),
-        _ => check_sorted(h.vertices, place, before, word),
+        3 => check_sorted(h.vertices, place, before, word),
+        _ => check_edge(h.vertices, place, word),
     }
 }
 
-// The words upward from place 0; the header is before it. Before the first word stands 0, so that every word has one before it.
+// Words upward from place 0; the header is before it. Before the first word stands 0, so that every word has one before it.
 fn check_words(h: Header, request: &[u64]) -> Checked
     requires { ⌜ Accepted h × (0 < length (now request)) ⌝ }
     ensures { λ r. ⌜ found r ≡ wordsRefusal h 0 0 (drop 1 (now (request .entry))) ⌝ }
@@ -185,6 +200,30 @@ fn check_words(h: Header, request: &[u64]) -> Checked
         }
         before = word;
         k += 1;
+    }
+    Checked::Accepted
+}
+
+// How many words have a place, an edge's or an entry's each.
+fn placed_count(h: Header) -> usize
+    requires { ⌜ Accepted h ⌝ }
+    ensures { λ r. ⌜ r ≡ placedCount (h .method) (h .vertices) (h .edges) ⌝ }
+{
+    if h.method == 2 {
+        return (h.vertices * h.vertices) as usize;
+    }
+    h.edges as usize
+}
+
+// 16: method 5's destination, the word after the edges.
+fn check_last(h: Header, request: &[u64]) -> Checked
+    requires { ⌜ Accepted h × (length (drop 1 (now request)) ≡ wordCountOf h) ⌝ }
+    ensures { λ r. ⌜ found r ≡ lastRefusal h (drop 1 (now (request .entry))) ⌝ }
+{
+    if h.method == 5 {
+        if h.vertices <= request[h.edges as usize + 1] {
+            return Checked::Refused(answers::DESTINATION);
+        }
     }
     Checked::Accepted
 }
@@ -203,5 +242,8 @@ pub fn check(request: &[u64], lent: Lengths) -> Checked
     if let Checked::Refused(refusal) = check_sizes(h, request.len() - 1, lent) {
         return Checked::Refused(refusal);
     }
-    check_words(h, request)
+    if let Checked::Refused(refusal) = check_words(h, &request[..placed_count(h) + 1]) {
+        return Checked::Refused(refusal);
+    }
+    check_last(h, request)
 }

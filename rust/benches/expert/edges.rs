@@ -5,14 +5,20 @@ use super::{log_rows, log_vertices, start, CACHED_WORDS};
 use crate::reference::plan::{Public, FAR};
 
 pub fn run(public: &Public, cells: &mut [i64], log: &mut [u64]) {
+    let (words, end) = log.split_at_mut(log.len() - 2);
+    let verdict = search(public, cells, words);
+    end.copy_from_slice(&[open(Plan::new(public).verdict), verdict]);
+}
+
+/// All but the publishing of the verdict, which is told.
+pub fn search(public: &Public, cells: &mut [i64], log: &mut [u64]) -> u64 {
     let (n, m) = (public.n as usize, public.m as usize);
     let plan = Plan::new(public);
     let mut lists = Lists::split(public, cells);
     let mut scratch = Scratch::default();
     let copying = log.len() < CACHED_WORDS;
     let (opening, log) = log.split_at_mut(3 * n + 2);
-    let (passes, log) = log.split_at_mut((n - 1) * m * (8 * n + 4));
-    let (check, end) = log.split_at_mut(m * (7 * n + 3));
+    let (passes, check) = log.split_at_mut((n - 1) * m * (8 * n + 4));
     plan.log_opening(public.source, opening);
     for pass in 0..n - 1 {
         for edge in 0..m {
@@ -26,8 +32,8 @@ pub fn run(public: &Public, cells: &mut [i64], log: &mut [u64]) {
         scratch.price(edge, &lists);
         scratch.check(edge, &lists);
     }
-    end.copy_from_slice(&[open(plan.verdict), scratch.verdict as u64]);
     scratch.leave(lists.scratch);
+    scratch.verdict as u64
 }
 
 /// The numbers of vertices and edges, and the addresses: the first of each

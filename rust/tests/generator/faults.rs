@@ -6,7 +6,7 @@ use crate::reference::plan::{head, Public};
 /// The numbers of the faults that a word of each method can have, first those that are told first.
 fn numbers(method: u64) -> &'static [u64] {
     match method {
-        1 => &[10, 13, 14, 11],
+        1 | 5 => &[10, 13, 14, 11],
         3 => &[10, 13, 14, 11, 15],
         _ => &[10, 11],
     }
@@ -50,6 +50,19 @@ pub fn word(random: &mut Random, public: &Public, floor: u64, faults: &[u64]) ->
         false => vertex(random, floor, public.n, has(14)),
     };
     from << 56 | to << 48 | spare(random, 16, has(10)) << 32 | price
+}
+
+/// A destination that is there, or a bad one: the first that is not, one that
+/// is there in some of its bits alone, an end of the signed numbers, or any.
+pub fn destination(random: &mut Random, n: u64, bad: bool) -> u64 {
+    match (bad, random.below(5)) {
+        (false, _) => random.below(n),
+        (true, 0) => n,
+        (true, 1) => random.below(n) | 1 << (8 + random.below(56)),
+        (true, 2) => 1 << 63,
+        (true, 3) => u64::MAX,
+        (true, _) => random.word().max(n),
+    }
 }
 
 /// Often the last vertex that is there, or the first that is not.

@@ -7,6 +7,9 @@ use crate::reference::{log_length, plan_words, Buffers};
 
 const MOST: i64 = 1_000_000;
 
+/// The methods that there are.
+pub const METHODS: [u64; 4] = [1, 2, 3, 5];
+
 /// A xorshift generator: small, and the same on every machine.
 pub struct Random(u64);
 
@@ -43,6 +46,12 @@ impl Random {
         numbers[self.index(numbers.len())]
     }
 
+    pub fn shuffle<T>(&mut self, list: &mut [T]) {
+        for at in (1..list.len()).rev() {
+            list.swap(at, self.index(at + 1));
+        }
+    }
+
     pub fn words(&mut self, length: usize) -> Vec<u64> {
         (0..length).map(|_| self.word()).collect()
     }
@@ -60,7 +69,7 @@ pub fn edge_word(tail: u64, head: u64, weight: i64) -> u64 {
 pub fn small_request(random: &mut Random) -> Vec<u64> {
     let n = 1 + random.below(6);
     let m = random.below(13);
-    let method = 1 + random.below(3);
+    let method = random.one_of(&METHODS);
     request(random, method, n, m)
 }
 
@@ -72,6 +81,7 @@ pub fn request(random: &mut Random, method: u64, n: u64, m: u64) -> Vec<u64> {
     match method {
         1 => words.extend(edge_words(random, n, m)),
         3 => words.extend(sorted_words(random, n, m)),
+        5 => words.extend(routed_words(random, n, m, source)),
         _ => words.extend(table_words(random, n)),
     }
     words
@@ -112,6 +122,44 @@ fn lead_to_few(random: &mut Random, n: u64, words: &mut [u64]) {
         }
         *word = *word & !(0xFF << 48) | head << 48;
     }
+}
+
+/// Edges, and a destination after them.
+fn routed_words(random: &mut Random, n: u64, m: u64, source: u64) -> Vec<u64> {
+    if m + 1 >= n && random.one_in(3) {
+        return trail_words(random, n, m, source);
+    }
+    let mut words = edge_words(random, n, m);
+    words.push(match random.one_in(6) {
+        true => source,
+        false => random.below(n),
+    });
+    words
+}
+
+/// A trail from the source through all vertices, in any order among edges that
+/// lead nowhere sooner. The destination is often its end, or not far from it.
+fn trail_words(random: &mut Random, n: u64, m: u64, source: u64) -> Vec<u64> {
+    let heights: Vec<i64> = (0..n).map(|_| random.between(0, 400_000)).collect();
+    let mut trail: Vec<u64> = (0..n).filter(|&vertex| vertex != source).collect();
+    random.shuffle(&mut trail);
+    trail.insert(0, source);
+    // With no detour other edges may tie with the trail.
+    let detour = random.between(0, 2);
+    let others = (n - 1..m).map(|_| [random.below(n), random.below(n)]);
+    let steps = trail.windows(2).map(|step| [step[0], step[1]]);
+    let mut ends: Vec<([u64; 2], i64)> = steps.map(|ends| (ends, 0)).collect();
+    ends.extend(others.map(|ends| (ends, detour)));
+    random.shuffle(&mut ends);
+    let words = ends.into_iter().map(|([tail, head], detour)| {
+        let climb = heights[head as usize] - heights[tail as usize];
+        edge_word(tail, head, climb + detour)
+    });
+    let destination = match random.one_in(2) {
+        true => trail[n as usize - 1],
+        false => random.one_of(&trail[n as usize / 2..]),
+    };
+    words.chain([destination]).collect()
 }
 
 /// No edge crosses the wall, so that a part stays unreached.
@@ -159,7 +207,8 @@ fn table_weight(random: &mut Random, style: u64, gaps: u64) -> i64 {
     }
 }
 
-/// Buffers with leftovers in them, often longer than the request needs.
+/// Buffers with leftovers in them, often longer than the request needs: a route
+/// buffer is lent where there is no route, too.
 pub fn buffers(random: &mut Random, header: u64) -> Buffers {
     let public = Public::read(header);
     let n = public.n as usize;
@@ -170,12 +219,14 @@ pub fn buffers(random: &mut Random, header: u64) -> Buffers {
         log + spare(),
         n + spare(),
         n + spare(),
+        public.route_length() + spare(),
     ];
     Buffers {
         cells: random.cells(lengths[0]),
         log: random.words(lengths[1]),
         distances: random.cells(lengths[2]),
         parents: random.cells(lengths[3]),
+        route: random.cells(lengths[4]),
     }
 }
 
@@ -184,7 +235,7 @@ pub fn damage(random: &mut Random, request: &mut Vec<u64>, lent: &mut Buffers) {
     if random.one_in(2) {
         return damage_word(random, request);
     }
-    match random.below(11) {
+    match random.below(13) {
         0 => request.clear(),
         1 => change_header(random, request, 60, 16),
         2 => change_header(random, request, 40, 40),
@@ -195,7 +246,9 @@ pub fn damage(random: &mut Random, request: &mut Vec<u64>, lent: &mut Buffers) {
         7 => shorten(random, &mut lent.cells, Public::cells, request),
         8 => shorten(random, &mut lent.log, needed_log, request),
         9 => shorten(random, &mut lent.distances, vertices, request),
-        _ => shorten(random, &mut lent.parents, vertices, request),
+        10 => shorten(random, &mut lent.parents, vertices, request),
+        11 => shorten(random, &mut lent.route, Public::route_length, request),
+        _ => damage_destination(random, request),
     }
 }
 
@@ -237,6 +290,9 @@ fn shorten<T>(
         return;
     }
     let needed = needed(&public);
+    if needed == 0 {
+        return;
+    }
     let length = match random.below(3) {
         0 => needed - 1,
         1 => 0,
@@ -266,6 +322,16 @@ fn damage_word(random: &mut Random, request: &mut [u64]) {
         5 => *word = *word >> 32 << 32 | u64::from((-MOST - random.between(0, 1)) as u32),
         6 if (1..=32).contains(&public.n) => *word = faulty_word(random, &public, floor),
         _ => *word = random.word(),
+    }
+}
+
+/// Puts a bad destination at the end of a request of method 5.
+fn damage_destination(random: &mut Random, request: &mut [u64]) {
+    if let [header, .., destination] = request {
+        let Public { method, n, .. } = Public::read(*header);
+        if method == 5 && (1..=32).contains(&n) {
+            *destination = faults::destination(random, n, true);
+        }
     }
 }
 

@@ -15,6 +15,8 @@ pub struct Graph {
     pub vertices: usize,
     pub source: usize,
     pub edges: Vec<Option<Edge>>,
+    /// Of a request of method 5.
+    pub destination: Option<usize>,
 }
 
 /// What passes over all vertices at once leave.
@@ -29,7 +31,8 @@ impl Graph {
     pub fn read(request: &[u64]) -> Graph {
         let public = Public::read(request[0]);
         let n = public.n as usize;
-        let words = request[1..].iter().enumerate();
+        let (words, destination) = public.parts(&request[1..]);
+        let words = words.iter().enumerate();
         let edges = words.map(|(at, &word)| match public.method {
             2 => table_edge(at, word, n),
             _ => Some(listed_edge(word)),
@@ -38,6 +41,7 @@ impl Graph {
             vertices: n,
             source: public.source as usize,
             edges: edges.collect(),
+            destination: destination.map(|vertex| vertex as usize),
         }
     }
 
@@ -107,6 +111,29 @@ impl Graph {
         let old = before[vertex];
         let least = offers.min();
         least.filter(|&(total, _)| old.is_none_or(|old| total < old))
+    }
+
+    /// The parents followed from a vertex, a step less than there are vertices.
+    /// Where there is no parent the steps end, and the rest is -1.
+    pub fn followed(&self, parents: &[i64], from: usize) -> Vec<i64> {
+        let mut at = Some(from);
+        let steps = (1..self.vertices).map(|_| {
+            let parent = at.map_or(-1, |vertex| parents[vertex]);
+            let number = usize::try_from(parent).ok();
+            at = number.and_then(|number| self.edges[number].map(|edge| edge.tail));
+            parent
+        });
+        steps.collect()
+    }
+
+    /// Where a walk of these edges, the last one first, begins that leads to a
+    /// vertex, and its total; `None` if they are no such walk.
+    pub fn walk(&self, edges: &[i64], to: usize) -> Option<(usize, i64)> {
+        edges.iter().try_fold((to, 0), |(at, total), &number| {
+            let listed = self.edges.get(usize::try_from(number).ok()?);
+            let edge = listed?.filter(|edge| edge.head == at)?;
+            Some((edge.tail, total + edge.weight))
+        })
     }
 
     /// Dijkstra, for weights that are not negative.

@@ -9,15 +9,15 @@ use plan::{emit, head, lay, split, Machine, Public};
 const PLACES: usize = 1 << 24;
 const MOST: i64 = 1_000_000;
 
-/// The number, the place and the values of an answer, 0 where it has fewer than four.
+/// The number, the place and the values of an answer, 0 where it has fewer than five.
 #[derive(Clone, Copy, Debug, PartialEq, Eq)]
 pub struct Outcome {
     pub number: u64,
     pub place: Option<u64>,
-    pub values: [u64; 4],
+    pub values: [u64; 5],
 }
 
-fn ran(number: u64, values: [u64; 4]) -> Outcome {
+fn ran(number: u64, values: [u64; 5]) -> Outcome {
     Outcome {
         number,
         place: None,
@@ -29,7 +29,7 @@ fn refused(number: u64, place: Option<usize>) -> Outcome {
     Outcome {
         number,
         place: place.map(|place| place as u64),
-        values: [0; 4],
+        values: [0; 5],
     }
 }
 
@@ -40,6 +40,7 @@ pub struct Buffers {
     pub log: Vec<u64>,
     pub distances: Vec<i64>,
     pub parents: Vec<i64>,
+    pub route: Vec<i64>,
 }
 
 /// Every word of a plan, the header first.
@@ -62,7 +63,7 @@ fn header_fault(request: &[u64]) -> Option<u64> {
     };
     let public = Public::read(word);
     match public {
-        Public { method, .. } if !(1..=3).contains(&method) => Some(1),
+        Public { method, .. } if ![1, 2, 3, 5].contains(&method) => Some(1),
         Public { n, .. } if n == 0 || n > 32 => Some(2),
         Public { m, .. } if m > 128 => Some(3),
         Public { method: 2, m, .. } if m != 0 => Some(3),
@@ -101,21 +102,25 @@ fn order_fault(public: &Public, words: &[u64], at: usize) -> Option<u64> {
     (public.method == 3 && falls).then_some(15)
 }
 
+/// The first refusal of the words after the header, the destination last.
 fn words_fault(public: &Public, words: &[u64]) -> Option<Outcome> {
-    (0..words.len()).find_map(|at| {
+    let (words, destination) = public.parts(words);
+    let fault = (0..words.len()).find_map(|at| {
         let fault = word_fault(public, words[at]);
         let number = fault.or_else(|| order_fault(public, words, at));
         number.map(|number| refused(number, Some(at)))
-    })
+    });
+    let absent = destination.filter(|&vertex| vertex >= public.n);
+    fault.or_else(|| absent.map(|_| refused(16, None)))
 }
 
 fn lent_fault(public: &Public, log_needed: usize, lent: &Buffers) -> Option<u64> {
-    let n = public.n as usize;
+    let results = lent.distances.len().min(lent.parents.len());
     if lent.cells.len() < public.cells() {
         Some(6)
     } else if lent.log.len() < log_needed {
         Some(7)
-    } else if lent.distances.len() < n || lent.parents.len() < n {
+    } else if results < public.n as usize || lent.route.len() < public.route_length() {
         Some(8)
     } else {
         None
@@ -131,6 +136,7 @@ pub fn run(request: &[u64], lent: &mut Buffers) -> Outcome {
     let public = Public::read(header);
     let expected = match public.method {
         2 => public.n * public.n,
+        5 => public.m + 1,
         _ => public.m,
     };
     if words.len() as u64 != expected {
@@ -149,7 +155,7 @@ pub fn run(request: &[u64], lent: &mut Buffers) -> Outcome {
         2 => 0,
         _ => lent.log[logged - 1],
     };
-    let values = [rounds, logged as u64, verdict, 0];
+    let values = [rounds, logged as u64, verdict, 0, 0];
     if verdict != 0 {
         return ran(12, values);
     }
@@ -160,15 +166,17 @@ pub fn run(request: &[u64], lent: &mut Buffers) -> Outcome {
 fn interpret(plan: &[u64], cells: &mut [i64], log: &mut [u64]) -> (u64, usize) {
     let (header, words) = (plan[0], &plan[1..]);
     let rounds = depth::rounds(words, cells.len());
-    let mut machine = Machine::new(header, cells, log);
-    machine.interpret(words);
-    (rounds, machine.logged)
+    (rounds, Machine::new(header, cells, log).interpret(words))
 }
 
 fn copy_results(public: &Public, lent: &mut Buffers) {
     let (n, first) = (public.n as usize, public.distances() as usize);
     lent.distances[..n].copy_from_slice(&lent.cells[first..first + n]);
     lent.parents[..n].copy_from_slice(&lent.cells[first + n..first + 2 * n]);
+    if public.method == 5 {
+        let (length, first) = (public.route_length(), public.route() as usize);
+        lent.route[..length].copy_from_slice(&lent.cells[first..first + length]);
+    }
 }
 
 /// Whether a foreign plan's word can be carried out on that many cells.
@@ -194,10 +202,10 @@ pub fn run_plan(plan: &[u64], cells: &mut [i64], log: &mut [u64]) -> Outcome {
         return refused(7, None);
     }
     if plan.is_empty() {
-        return ran(0, [0; 4]);
+        return ran(0, [0; 5]);
     }
     let (rounds, logged) = interpret(plan, cells, log);
-    ran(0, [rounds, logged as u64, 0, 0])
+    ran(0, [rounds, logged as u64, 0, 0, 0])
 }
 
 /// Writes the plan of the first word given.
@@ -210,15 +218,16 @@ pub fn write_plan(header: &[u64], buffer: &mut [u64]) -> Outcome {
         return refused(7, None);
     }
     buffer[..plan.len()].copy_from_slice(&plan);
-    ran(0, [plan.len() as u64, 0, 0, 0])
+    ran(0, [plan.len() as u64, 0, 0, 0, 0])
 }
 
-/// The lengths that the first word given asks for: cells, log, distances, parents.
+/// The lengths that the first word given asks for: cells, log, distances, parents, route.
 pub fn sizes(header: &[u64]) -> Outcome {
     if let Some(number) = header_fault(header) {
         return refused(number, None);
     }
     let public = Public::read(header[0]);
-    let log = log_length(&plan_words(header[0]));
-    ran(0, [public.cells() as u64, log as u64, public.n, public.n])
+    let log = log_length(&plan_words(header[0])) as u64;
+    let (cells, route) = (public.cells() as u64, public.route_length() as u64);
+    ran(0, [cells, log, public.n, public.n, route])
 }

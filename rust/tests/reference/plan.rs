@@ -30,6 +30,7 @@ impl Public {
         let count = match self.method {
             1 => 3 * m + 3 * n + 8,
             3 => 2 * n * m + 4 * m + 5 * n + 10,
+            5 => 3 * m + 5 * n + 8,
             _ => n * n + 5 * n + 6,
         };
         count as usize
@@ -48,6 +49,32 @@ impl Public {
         match self.method {
             2 => self.n * self.n,
             _ => self.heads() + 2 * self.m,
+        }
+    }
+
+    /// Method 5's cell of the destination, after those that method 1 has too.
+    pub fn destination(&self) -> u64 {
+        3 * self.m + 3 * self.n + 8
+    }
+
+    /// The first cell of method 5's route.
+    pub fn route(&self) -> u64 {
+        self.destination() + 1 + self.n
+    }
+
+    /// How many edges the route has room for.
+    pub fn route_length(&self) -> usize {
+        match self.method {
+            5 => self.n as usize - 1,
+            _ => 0,
+        }
+    }
+
+    /// The words of the graph by themselves, and the destination after them in method 5.
+    pub fn parts<'a>(&self, words: &'a [u64]) -> (&'a [u64], Option<u64>) {
+        match (self.method, words) {
+            (5, [edges @ .., destination]) => (edges, Some(*destination)),
+            _ => (words, None),
         }
     }
 }
@@ -77,7 +104,7 @@ pub fn head(edge: u64) -> u64 {
 pub fn emit(public: &Public, words: &mut Vec<u64>) {
     let writer = Writer { words };
     match public.method {
-        1 => writer.edges(public),
+        1 | 5 => writer.edges(public),
         3 => writer.sorted_edges(public),
         _ => writer.table(public),
     }
@@ -182,7 +209,44 @@ impl Writer<'_> {
                 }
             }
         }
+        if public.method == 5 {
+            self.tails(public);
+            self.route(public);
+        }
         self.open(x + 7);
+    }
+
+    /// Notes for each vertex the tail of its parent, or itself where it has none.
+    fn tails(&mut self, public: &Public) {
+        let (n, m) = (public.n, public.m);
+        let (p, y, x) = (3 * m + n, 3 * m + 2 * n, 3 * m + 3 * n);
+        let b = public.destination() + 1;
+        for v in 0..n {
+            self.copy(b + v, y + v);
+        }
+        for i in 0..m {
+            self.set(x + 3, i as i64);
+            for v in 0..n {
+                self.equal(x + 5, p + v, x + 3);
+                self.move_if(b + v, x + 5, i);
+            }
+        }
+    }
+
+    /// Steps from the destination back, as often as the longest walk needs.
+    fn route(&mut self, public: &Public) {
+        let (n, m) = (public.n, public.m);
+        let (p, y, x) = (3 * m + n, 3 * m + 2 * n, 3 * m + 3 * n);
+        let (b, r) = (public.destination() + 1, public.route());
+        self.copy(x + 1, public.destination());
+        for k in 0..n - 1 {
+            self.copy(x + 2, x + 1);
+            for v in 0..n {
+                self.equal(x + 5, x + 2, y + v);
+                self.move_if(r + k, x + 5, p + v);
+                self.move_if(x + 1, x + 5, b + v);
+            }
+        }
     }
 
     /// Fetches the distance of edge `i`'s tail and adds the weight.
@@ -337,6 +401,10 @@ impl Writer<'_> {
 pub fn lay(public: &Public, words: &[u64], cells: &mut [i64]) {
     cells[..public.cells()].fill(0);
     let (m, heads) = (public.m as usize, public.heads() as usize);
+    let (words, destination) = public.parts(words);
+    if let Some(vertex) = destination {
+        cells[public.destination() as usize] = vertex as i64;
+    }
     for (i, &word) in words.iter().enumerate() {
         let price = i64::from(word as u32 as i32);
         if public.method == 2 {
@@ -353,7 +421,7 @@ pub fn lay(public: &Public, words: &[u64], cells: &mut [i64]) {
 pub struct Machine<'a> {
     cells: &'a mut [i64],
     log: &'a mut [u64],
-    pub logged: usize,
+    logged: usize,
 }
 
 impl<'a> Machine<'a> {
@@ -397,11 +465,16 @@ impl<'a> Machine<'a> {
         }
     }
 
-    pub fn interpret(&mut self, words: &[u64]) {
+    /// Carries the words out, and tells how many the log has then. By value and
+    /// not inlined, so that the loop is compiled with the machine in locals,
+    /// whatever stands around the call.
+    #[inline(never)]
+    pub fn interpret(mut self, words: &[u64]) -> usize {
         for &word in words {
             let (op, d, a, b) = split(word);
             self.note(word);
             self.act(op, d, a, b);
         }
+        self.logged
     }
 }

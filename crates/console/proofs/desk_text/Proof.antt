@@ -12,19 +12,20 @@ use Rattle.console.proofs.desk_text.Tie as tie
 
 put-answer-requires : tie.Need-put-answer-requires
 put-answer-requires c κs =
-    let r = c .before .before .before .before .before .before .before .before .run-bytes .ensures in (
+    let r = c .before .before .before .before .before .before .before .before .before .before .run-bytes .ensures in (
       search needs,
       search needs,
       search needs,
-      λ z. omega (arith, few-vertices _ _ _ _ _ _ _ (r .1) _ (r .0) z),
-      distinct _ _ _ _ _ _ _ (r .1),
+      search needs,
+      λ z. few-vertices _ _ _ _ _ _ _ _ (r .1) _ (r .0) z,
+      distinct _ _ _ _ _ _ _ _ (r .1),
     )
 
 returns : tie.Need-returns
 unfolding deskText
 returns c =
-    let r = c .before .before .before .before .before .before .before .before .before .run-bytes .ensures in
-    printed (omega arith) (rw (answer-text _ _ _ _ _ _ _ (r .1) _ (r .0)) at (c .put-answer .ensures))
+    let r = c .before .before .before .before .before .before .before .before .before .before .before .run-bytes .ensures in
+    printed (omega arith) (rw (answer-text _ _ _ _ _ _ _ _ (r .1) _ (r .0)) at (c .put-answer .ensures))
 
 pub desk-text-spec : {M : Type 1} → statement M
 desk-text-spec =
@@ -34,7 +35,9 @@ desk-text-spec =
     (λ c. counted {X = ℕ} 8192 0)
     (λ c. counted {X = ℤ} 32 (pos 0))
     (λ c. counted {X = ℤ} 32 (pos 0))
+    (λ c. counted {X = ℤ} 31 (pos 0))
     (λ c κs. search needs)
+    (λ c. search needs)
     (λ c. search needs)
     (λ c. search needs)
     put-answer-requires

@@ -12,14 +12,14 @@ use Rattle.console.proofs.host_text.Tie as tie
 
 put-log-requires : tie.Need-put-log-requires
 put-log-requires c κs =
-    let r = c .before .before .before .before .before .before .run-bytes .ensures in
-    (search needs, search needs, omega (arith, short-log _ _ _ _ _ _ _ (r .1)), distinct _ _ _ _ _ _ _ (r .1))
+    let r = c .before .before .before .before .before .before .before .run-bytes .ensures in
+    (search needs, search needs, omega (arith, short-log _ _ _ _ _ _ _ _ (r .1)), distinct _ _ _ _ _ _ _ _ (r .1))
 
 returns : tie.Need-returns
 unfolding hostText
 returns c =
-    let r = c .before .before .before .before .before .before .before .run-bytes .ensures in
-    printed (omega arith) (rw (log-text _ _ _ _ _ _ _ (r .1)) at (c .put-log .ensures))
+    let r = c .before .before .before .before .before .before .before .before .run-bytes .ensures in
+    printed (omega arith) (rw (log-text _ _ _ _ _ _ _ _ (r .1)) at (c .put-log .ensures))
 
 pub host-text-spec : {M : Type 1} → statement M
 host-text-spec =
@@ -29,6 +29,7 @@ host-text-spec =
     (λ c. counted {X = ℕ} 8192 0)
     (λ c. counted {X = ℤ} 32 (pos 0))
     (λ c. counted {X = ℤ} 32 (pos 0))
+    (λ c. counted {X = ℤ} 31 (pos 0))
     (λ c κs. search needs)
     (λ c. search needs)
     put-log-requires

@@ -27,8 +27,8 @@ inside c =
 returns : tie.Need-returns
 unfolding requestOf
 returns c =
-    let h = c .before .before .before .before .before .before in
-    let r = h .before .before .before .before .before .before in
+    let h = c .before .before .before .before .before .before .before in
+    let r = h .before .before .before .before .before .before .before in
     let w = r .before .before in
     let first = ap (λ (ws : List ℕ). getD ws 0 0) (w .to-words .ensures) ∙ first-word (w .before .before .before .before .args .bytes .now) in
     (c .read-header .ensures ∙ ap headerOf first, rw (r .handed-over .ensures, w .to-words .ensures) at (h .run .ensures))
@@ -45,6 +45,7 @@ run-bytes-spec =
     (λ c κs. search needs)
     (λ c. search needs)
     (λ c κs. search needs)
+    (λ c. search needs)
     (λ c. search needs)
     (λ c. search needs)
     (λ c. search needs)

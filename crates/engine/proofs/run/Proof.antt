@@ -3,7 +3,7 @@ use borrow.Author.Needs.{needs}
 use mathlib.Core.Path.{_≡_}
 use mathlib.Core.Option.{none}
 use native.Mathlib.Omega.{arith}
-use Rattle.plans.specs.Plan.{distances, parents, byKind}
+use Rattle.plans.specs.Plan.{distances, parents, route, byKind}
 use Rattle.plans.proofs.EachKind.{each-kind}
 use Rattle.engine.specs.Run.{Lent, refusalOf}
 use Rattle.engine.proofs.Answered.{refused, Passed, limits, allowed, counted, cells-enough, ready, verdict-there, can-copy, cycled, ran}
@@ -31,7 +31,7 @@ carried c = c .before .before .before .before .before
 
 lent : tie.Start → Lent
 lent c =
-    record { cells = c .args .cells .now; log = c .args .log .now; results = byKind (c .args .distances .now) (c .args .parents .now) }
+    record { cells = c .args .cells .now; log = c .args .log .now; results = byKind (c .args .distances .now) (c .args .parents .now) (c .args .route .now) }
 
 fine : (c : tie.After-enum-told) → none ≡ refusalOf (begun c .args .request .now) (lent (begun c))
 unfolding begun lent
@@ -102,10 +102,21 @@ copy-out-requires-2 c κs =
     let f = figured l in
     can-copy (passed (f .before)) (l .lay .ensures) (k .carry .ensures) (f .figures-of .ensures) parents
 
+copy-out-requires-3 : tie.Need-copy-out-requires-3
+unfolding begun checked figured laid carried lent
+copy-out-requires-3 c κs =
+    let q = c .before .before .before in
+    let d = q .before .before .before .before in
+    let k = carried (d .before .before .before .before .before) in
+    let l = laid k in
+    let f = figured l in
+    can-copy (passed (f .before)) (l .lay .ensures) (k .carry .ensures) (f .figures-of .ensures) route
+
 returns-3 : tie.Need-returns-3
 unfolding begun checked figured laid carried lent
 returns-3 c =
-    let q = c .before in
+    let r = c .before in
+    let q = r .before .before .before .before in
     let d = q .before .before .before .before in
     let i = d .before .before .before in
     let v = i .before .before in
@@ -113,7 +124,7 @@ returns-3 c =
     let l = laid k in
     let f = figured l in
     ran (passed (f .before)) (l .lay .ensures) (k .carry .ensures) (f .figures-of .ensures) (v .verdict-left .ensures) (i .if1 .left)
-    (each-kind _ (d .copy-out .ensures) (q .copy-out2 .ensures))
+    (each-kind _ (d .copy-out .ensures) (q .copy-out2 .ensures) (r .copy-out3 .ensures))
 
 pub run-spec : {M : Type 1} → statement M
 run-spec =
@@ -134,6 +145,8 @@ run-spec =
     returns-2
     copy-out-requires
     copy-out-requires-2
+    copy-out-requires-3
+    (λ c. search needs)
     (λ c. search needs)
     (λ c. search needs)
     (λ c. search needs)

@@ -7,7 +7,7 @@ use Rattle.exports.proofs.vukstaja_run.Tie as tie
 
 returns : tie.Need-returns
 returns c =
-    let m = c .before .before .before .before .before .before .run .ensures in
+    let m = c .before .before .before .before .before .before .before .run .ensures in
     record {
       answers = c .run-numbers .ensures ∙ ap numbersOf (m .answers);
       cells-left = m .cells-left;
@@ -21,6 +21,7 @@ vukstaja-run-spec =
     (tie.spec
     (λ c κs. search needs)
     (λ c κs. search needs)
+    (λ c. search needs)
     (λ c. search needs)
     (λ c. search needs)
     (λ c. search needs)

@@ -2,7 +2,6 @@
 use borrow.Author.Needs.{needs}
 use mathlib.Core.Path.{sym}
 use Prim.Native.Nat.{ℕ}
-use native.Mathlib.Omega.{arith}
 use lib.IntN.{ℤ, pos}
 use lib.Seq.{length-take-le}
 use Rattle.text.proofs.Arrays.{counted}
@@ -12,9 +11,14 @@ use Rattle.figures.proofs.show.Tie as tie
 
 put-run-requires : tie.Need-put-run-requires
 put-run-requires c κs =
-    let r = c .before .before .before .before .before .before .before .before in
-    let h = r .before .before .before .before .before in
-    (search needs, search needs, search needs, λ z. omega (arith, few-vertices _ _ _ _ _ _ _ (r .run .ensures) _ (h .read-header .ensures) z))
+    let r = c .before .before .before .before .before .before .before .before .before .before in
+    let h = r .before .before .before .before .before .before in (
+      search needs,
+      search needs,
+      search needs,
+      search needs,
+      λ z. few-vertices _ _ _ _ _ _ _ _ (r .run .ensures) _ (h .read-header .ensures) z,
+    )
 
 pub show-spec : {M : Type 1} → statement M
 show-spec =
@@ -26,8 +30,10 @@ show-spec =
     (λ c. counted {X = ℕ} 497321 0)
     (λ c. counted {X = ℤ} 32 (pos 0))
     (λ c. counted {X = ℤ} 32 (pos 0))
+    (λ c. counted {X = ℤ} 31 (pos 0))
     (λ c κs. search needs)
-    (λ c. counted {X = ℕ} 2248 0)
+    (λ c. counted {X = ℕ} 2936 0)
+    (λ c. search needs)
     (λ c. search needs)
     (λ c. search needs)
     (λ c. search needs)

@@ -36,6 +36,9 @@ returns-5 c =
     let t = ne-test (v .weight2 .result) (negsuc 0) (c .if1 .left) in
     rw (v .before .enum-told4 .given .1, ← v .weight2 .ensures, t) (kept _ (v .weight2 .ok))
 
+returns-6 : tie.Need-returns-6
+returns-6 c = rw (c .before .enum-told5 .given .1) (kept _ (c .signed .ok) ∙ c .signed .ensures)
+
 pub part-of-spec : {M : Type 1} → statement M
 part-of-spec =
     tie.close
@@ -50,8 +53,11 @@ part-of-spec =
     (λ c κs. search needs)
     (λ c. search needs)
     (λ c κs. search needs)
+    (λ c. search needs)
+    (λ c κs. search needs)
     returns
     returns-2
     returns-3
     returns-4
-    returns-5)
+    returns-5
+    returns-6)

@@ -1,14 +1,14 @@
 -- `intake::strips_of` meets its contract, method by method. Rests on the planner's sizes.
 use borrow.Author.Needs.{needs}
 use native.Mathlib.Omega.{arith}
-use Rattle.planner.proofs.Figured.{method-three, sizes}
+use Rattle.planner.proofs.Figured.{method-five, sizes}
 use Rattle.intake.specs.Intake.{stripsOf}
 use Rattle.intake.proofs.strips_of.Statement.{statement}
 use Rattle.intake.proofs.strips_of.Tie as tie
 
 returns : tie.Need-returns
 unfolding stripsOf
-returns c = rw (c .before .match .keys1, c .edge-strips .ensures)
+returns c = let m = c .before in rw (m .match .keys1, c .edge-strips .ensures, m .before .new .ensures)
 
 returns-2 : tie.Need-returns-2
 unfolding stripsOf
@@ -16,9 +16,17 @@ returns-2 c = rw (c .before .match .keys2, c .before .before .new .ensures, c .n
 
 returns-3 : tie.Need-returns-3
 unfolding stripsOf
-returns-3 c =
-    let m = c .before in
-    rw (method-three _ (m .before .before .pre) (λ e. omega arith) (λ e. omega arith), c .edge-strips2 .ensures)
+returns-3 c = let m = c .before in rw (m .match .keys3, c .edge-strips2 .ensures, m .before .new .ensures)
+
+returns-4 : tie.Need-returns-4
+unfolding stripsOf
+returns-4 c =
+    let s = c .before .before .before .before in
+    rw (
+      method-five _ (s .pre) (λ e. omega arith) (λ e. omega arith) (λ e. omega arith),
+      c .edge-strips3 .ensures,
+      c .before .new3 .ensures,
+    )
 
 pub strips-of-spec : {M : Type 1} → statement M
 strips-of-spec =
@@ -33,6 +41,14 @@ strips-of-spec =
     (λ c. let s = sizes _ (c .before .before .pre) in omega arith)
     (λ c. let s = sizes _ (c .before .before .pre) in omega arith)
     (λ c κs. search needs)
+    (λ c. let s = sizes _ (c .before .before .pre) in omega arith)
+    (λ c. let s = sizes _ (c .before .before .pre) in omega arith)
+    (λ c. search needs)
+    (λ c. let s = sizes _ (c .before .before .pre) in omega arith)
+    (λ c. let s = sizes _ (c .before .before .pre) in omega arith)
+    (λ c κs. search needs)
+    (λ c κs. search needs)
     returns
     returns-2
-    returns-3)
+    returns-3
+    returns-4)

@@ -10,4 +10,5 @@ most-edges-spec =
     (tie.spec
     (λ c. rw (c .match .keys1))
     (λ c. rw (c .match .keys2))
-    (λ c. no-edges (c .before .args .method) (λ e. omega arith) (λ e. omega arith)))
+    (λ c. rw (c .match .keys3))
+    (λ c. no-edges (c .before .args .method) (λ e. omega arith) (λ e. omega arith) (λ e. omega arith)))

@@ -1,7 +1,7 @@
 -- `planner::rounds_of` meets its contract: a method's own. Rests on Figured.
 use borrow.Author.Needs.{needs}
 use native.Mathlib.Omega.{arith}
-use Rattle.planner.proofs.Figured.{method-three}
+use Rattle.planner.proofs.Figured.{method-five}
 use Rattle.planner.proofs.rounds_of.Statement.{statement}
 use Rattle.planner.proofs.rounds_of.Tie as tie
 
@@ -11,7 +11,9 @@ rounds-of-spec =
     (tie.spec
     (λ c κs. search needs)
     (λ c κs. search needs)
-    (λ c κs. search (needs, method-three, arith))
+    (λ c κs. search needs)
+    (λ c κs. search (needs, method-five, arith))
+    (λ c. search needs)
     (λ c. search needs)
     (λ c. search needs)
     (λ c. search needs))

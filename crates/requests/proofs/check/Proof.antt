@@ -1,7 +1,11 @@
 -- `requests::check` meets its contract: a law for each way out. Rests on Order.
 use borrow.Author.Needs.{needs}
+use mathlib.Core.Path.{sym}
+use Prim.Native.Nat.{_+_, _≤_}
 use native.Mathlib.Omega.{arith}
-use Rattle.requests.proofs.Order.{no-word, header-bad, header-good, sizes-bad, words-say}
+use lib.ListN.{length}
+use lib.Seq.{length-take-le}
+use Rattle.requests.proofs.Order.{no-word, header-bad, header-good, sizes-bad, counted, words-there, words-bad, last-says}
 use Rattle.requests.proofs.check.Statement.{statement}
 use Rattle.requests.proofs.check.Tie as tie
 
@@ -17,11 +21,32 @@ check-sizes-requires c κs = search header-good
 returns-3 : tie.Need-returns-3
 returns-3 c = search sizes-bad
 
+placed-count-requires : tie.Need-placed-count-requires
+placed-count-requires c κs = search header-good
+
+-- The words that have a place are there.
+there : (c : tie.After-placed-count)
+    → c .placed-count .result + 1
+    ≤ length (c .before .before .before .before .before .before .before .before .before .before .before .args .request .now)
+there c = search words-there
+
+add-check-words : tie.Need-add-check-words
+add-check-words c = omega (arith, there c)
+
+slice-aggregate-check-words : tie.Need-slice-aggregate-check-words
+slice-aggregate-check-words c = sym (length-take-le _ _ (there (c .before)))
+
 check-words-requires : tie.Need-check-words-requires
-check-words-requires c κs = (search header-good, omega arith)
+check-words-requires c κs = (search header-good, rw (length-take-le _ _ (there (c .before))) (omega arith))
 
 returns-4 : tie.Need-returns-4
-returns-4 c = search words-say
+returns-4 c = search words-bad
+
+check-last-requires : tie.Need-check-last-requires
+check-last-requires c κs = (search header-good, search counted)
+
+returns-5 : tie.Need-returns-5
+returns-5 c = search last-says
 
 pub check-spec : {M : Type 1} → statement M
 check-spec =
@@ -39,5 +64,12 @@ check-spec =
     (λ c. search needs)
     returns-3
     (λ c. search needs)
+    placed-count-requires
+    add-check-words
+    slice-aggregate-check-words
     check-words-requires
-    returns-4)
+    (λ c. search needs)
+    returns-4
+    (λ c. search needs)
+    check-last-requires
+    returns-5)

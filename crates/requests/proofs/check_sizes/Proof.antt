@@ -1,6 +1,6 @@
 -- `requests::check_sizes` meets its contract: a law for each way out. Rests on Sizes.
 use borrow.Author.Needs.{needs}
-use Rattle.requests.proofs.Sizes.{words-other, cells-short, log-short, distances-short, parents-short, sizes-met}
+use Rattle.requests.proofs.Sizes.{words-other, cells-short, log-short, results-short, sizes-met}
 use Rattle.requests.proofs.check_sizes.Statement.{statement}
 use Rattle.requests.proofs.check_sizes.Tie as tie
 
@@ -13,6 +13,6 @@ check-sizes-spec =
     (λ c. search words-other)
     (λ c. search cells-short)
     (λ c. search log-short)
-    (λ c. search distances-short)
-    (λ c. search parents-short)
+    (λ c κs. search needs)
+    (λ c. search results-short)
     (λ c. search sizes-met))

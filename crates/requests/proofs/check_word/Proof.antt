@@ -1,7 +1,7 @@
 -- `requests::check_word` meets its contract: a law for each method. Rests on Words.
 use borrow.Author.Needs.{needs}
 use native.Mathlib.Omega.{arith}
-use Rattle.requests.proofs.Words.{an-edge, an-entry, a-sorted-edge}
+use Rattle.requests.proofs.Words.{an-edge, an-entry, a-sorted-edge, a-routed-edge}
 use Rattle.requests.proofs.check_word.Statement.{statement}
 use Rattle.requests.proofs.check_word.Tie as tie
 
@@ -12,6 +12,8 @@ check-word-spec =
     (λ c κs. search needs)
     (λ c κs. search needs)
     (λ c κs. search needs)
+    (λ c κs. search needs)
     (λ c. search an-edge)
     (λ c. search an-entry)
-    (λ c. search (a-sorted-edge, arith)))
+    (λ c. search a-sorted-edge)
+    (λ c. search (a-routed-edge, arith)))
