@@ -1,6 +1,6 @@
 // The charge of operation words: their greatest depth (document 02, ask 4). The cells' depths are in a local table where the words keep to the
 // cells of one and are worth clearing it, else in the lent cells, whose numbers wait in the lent log and are put back.
-// Rests on machine and fields.
+// Rests on ops and fields.
 mod place;
 mod table;
 mod word;
@@ -21,7 +21,7 @@ fn fits(words: &[u64], count: usize) -> bool
 {
     let mut k: usize = 0;
     while k < words.len() {
-        if !machine::admits(words[k], count) {
+        if !ops::admits(words[k], count) {
             return false;
         }
         k += 1;

@@ -1,6 +1,6 @@
 // The greatest depth of words, with the cells' depths in the cells, whose numbers wait in the log: no room but what is lent.
-// Rests on machine and fields.
-use machine::Parts;
+// Rests on ops and fields.
+use ops::Parts;
 ghost use mathlib.Core.Path.{_≡_};
 ghost use Prim.Native.Nat.{_^_, _<_, _≤_};
 ghost use lib.Dec.{T};
@@ -16,8 +16,8 @@ ghost use Rattle.charge.specs.Worked.{WorkedOut};
 fn writes(word: u64, cell: u64) -> bool
     ensures { λ r. ⌜ r ≡ writesTo word cell ⌝ }
 {
-    let w = machine::split(word);
-    if w.op == machine::OPEN {
+    let w = ops::split(word);
+    if w.op == ops::OPEN {
         return false;
     }
     w.d == cell
@@ -44,7 +44,7 @@ fn depth_of(words: &[u64], cells: &[i64], k: usize, w: Parts) -> u64
     requires { ⌜ (k ≤ length (now words)) × T (admissibleAt (length (now cells)) (w .op) (w .d) (w .a) (w .b)) ⌝ }
     ensures { λ r. ⌜ r ≡ depthBy (decodeAt (w .op) (w .d) (w .a) (w .b)) (depthsAt (now (words .entry)) (now (cells .entry)) k) ⌝ }
 {
-    if w.op == machine::SET {
+    if w.op == ops::SET {
         return 1;
     }
     let x = depth_at(words, cells, k, w.a);
@@ -58,9 +58,9 @@ fn deepen(words: &[u64], cells: &mut [i64], log: &mut [u64], k: usize) -> u64
     requires { ⌜ (k < length (now words)) × (k < length (now log)) × (length (now words) ≤ 2 ^ 24) × T (admissible (length (now cells)) (getD (now words) k 0)) × NoDeeper (2 ^ 31) (depthsAt (now words) (now cells) k) ⌝ }
     ensures { λ r. ⌜ Saved (now (words .entry)) k (now (cells .entry)) (now (log .entry)) r (now (cells .exit)) (now (log .exit)) ⌝ }
 {
-    let w = machine::split(words[k]);
+    let w = ops::split(words[k]);
     let depth = depth_of(words, cells, k, w);
-    if w.op == machine::OPEN {
+    if w.op == ops::OPEN {
         return depth;
     }
     let d = w.d as usize;
@@ -77,7 +77,7 @@ fn deepen_all(words: &[u64], cells: &mut [i64], log: &mut [u64]) -> u64
     let mut rounds: u64 = 0;
     let mut k: usize = 0;
     while k < words.len() {
-        rounds = machine::greater(rounds, deepen(words, cells, log, k));
+        rounds = ops::greater(rounds, deepen(words, cells, log, k));
         k += 1;
     }
     rounds
@@ -88,8 +88,8 @@ fn put_back(word: u64, saved: u64, cells: &mut [i64])
     requires { ⌜ T (admissible (length (now cells)) word) ⌝ }
     ensures { λ _. ⌜ now (cells .exit) ≡ putBack word saved (now (cells .entry)) ⌝ }
 {
-    let w = machine::split(word);
-    if w.op == machine::OPEN {
+    let w = ops::split(word);
+    if w.op == ops::OPEN {
         return;
     }
     cells[w.d as usize] = fields::signed(saved, 64);

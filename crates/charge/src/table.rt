@@ -1,6 +1,6 @@
 // The greatest depth of words, with the cells' depths in a local table.
-// Rests on machine.
-use machine::Parts;
+// Rests on ops.
+use ops::Parts;
 ghost use mathlib.Core.Path.{_≡_};
 ghost use Prim.Native.Nat.{_^_, _<_, _≤_};
 ghost use lib.Dec.{T};
@@ -28,7 +28,7 @@ fn depth_of(table: &[u32], w: Parts) -> u64
     requires { ⌜ T (admissibleAt (length (now table)) (w .op) (w .d) (w .a) (w .b)) ⌝ }
     ensures { λ r. ⌜ r ≡ depthBy (decodeAt (w .op) (w .d) (w .a) (w .b)) (depthsIn (now (table .entry))) ⌝ }
 {
-    if w.op == machine::SET {
+    if w.op == ops::SET {
         return 1;
     }
     let x = depth_at(table, w.a);
@@ -42,9 +42,9 @@ fn deepen(table: &mut [u32], word: u64) -> u64
     requires { ⌜ T (admissible (length (now table)) word) × NoDeeper (2 ^ 31) (depthsIn (now table)) ⌝ }
     ensures { λ r. ⌜ Deepens word (depthsIn (now (table .entry))) r (depthsIn (now (table .exit))) ⌝ }
 {
-    let w = machine::split(word);
+    let w = ops::split(word);
     let depth = depth_of(table, w);
-    if w.op == machine::OPEN {
+    if w.op == ops::OPEN {
         return depth;
     }
     table[w.d as usize] = depth as u32;
@@ -59,7 +59,7 @@ fn deepen_all(words: &[u64], table: &mut [u32]) -> u64
     let mut rounds: u64 = 0;
     let mut k: usize = 0;
     while k < words.len() {
-        rounds = machine::greater(rounds, deepen(table, words[k]));
+        rounds = ops::greater(rounds, deepen(table, words[k]));
         k += 1;
     }
     rounds

@@ -1,5 +1,5 @@
 // A word's depth from those of its cells, wherever these are kept.
-// Rests on machine.
+// Rests on ops.
 ghost use mathlib.Core.Path.{_≡_};
 ghost use Prim.Native.Nat.{_^_, _<_, _≤_};
 ghost use lib.ListN.{getD};
@@ -13,9 +13,9 @@ fn read_depth(op: u64, x: u64, y: u64, z: u64) -> u64
 {
     match op {
         1 => x,
-        6 => machine::greater(machine::greater(x, y), z),
+        6 => ops::greater(ops::greater(x, y), z),
         7 => x,
-        _ => machine::greater(x, y),
+        _ => ops::greater(x, y),
     }
 }
 

@@ -1,5 +1,5 @@
 -- Bytes that count as 1,026 words: which refusal such a request meets, and that bytes beyond 8,208 change nothing.
--- Rests on Handed, plans' Bounds and Headers, and the planner's Headers.
+-- Rests on Handed, plans' Bounds and Headers, and headers' Headers.
 use mathlib.Core.Path.{_≡_, refl, sym, ap, _∙_}
 use mathlib.Core.Logic.{_⊎_, inr, ⊎-elim}
 use mathlib.Core.List.{List, [], _∷_, _++_}
@@ -19,10 +19,10 @@ use Rattle.plans.specs.Plan.{Accepted, headerOf, wordCountOf}
 use Rattle.plans.specs.Blocks.{flat}
 use Rattle.plans.proofs.Bounds.{square-le}
 use Rattle.plans.proofs.Headers.{by-method}
-use Rattle.planner.specs.Refusal.{headerRefusal}
-use Rattle.planner.proofs.Headers.{accepted}
-use Rattle.requests.specs.declared.Lengths.{Lengths}
-use Rattle.requests.specs.Refusal.{sizesRefusal, requestRefusal}
+use Rattle.headers.specs.Refusal.{headerRefusal}
+use Rattle.headers.proofs.Headers.{accepted}
+use Rattle.limits.specs.declared.Lengths.{Lengths}
+use Rattle.limits.specs.Refusal.{sizesRefusal, requestRefusal}
 use Rattle.console.specs.Bytes.{joinedFrom, wordAt, tooMany, wholeCount, wholeWords, handedOver, requestOf}
 use Rattle.console.proofs.Handed.{whole-handed, broken-handed, whole-length, whole-at, padded-length, first-word}
 

@@ -13,9 +13,9 @@ use Rattle.answers.specs.Refusal.{Method, Words, orElse}
 use Rattle.answers.specs.Buffers.{overwritten}
 use Rattle.plans.specs.Plan.{headerOf}
 use Rattle.plans.specs.Blocks.{flat}
-use Rattle.planner.specs.Refusal.{headerRefusal}
-use Rattle.requests.specs.declared.Lengths.{Lengths}
-use Rattle.requests.specs.Refusal.{requestRefusal}
+use Rattle.headers.specs.Refusal.{headerRefusal}
+use Rattle.limits.specs.declared.Lengths.{Lengths}
+use Rattle.limits.specs.Refusal.{requestRefusal}
 use Rattle.console.specs.Bytes.{wordAt, tooMany, wholeCount, wholeWords, handedOver, requestOf}
 use Rattle.console.proofs.Handed.{none-handed, whole-handed, whole-length}
 use Rattle.console.proofs.Padded.{too-many, padded-count, first, cut-longer}

@@ -1,5 +1,5 @@
 -- What the desk's program and `host_log` print, as functions of the bytes that they read.
--- Rests on Bytes, lines' texts and the engine's outcomes.
+-- Rests on Bytes, lines' texts and the outcomes of runs.
 use mathlib.Core.Path.{_≡_}
 use mathlib.Core.List.{List}
 use Prim.Native.Nat.{ℕ}
@@ -8,7 +8,7 @@ use lib.ListN.{length, replicate}
 use Rattle.io.specs.Counts.{Counts}
 use Rattle.answers.specs.Buffers.{overwritten}
 use Rattle.plans.specs.Plan.{byKind}
-use Rattle.engine.specs.Run.{Lent, outcome}
+use Rattle.demands.specs.Run.{Lent, outcome}
 use Rattle.console.specs.Bytes.{requestOf}
 use Rattle.lines.specs.Texts.{textOf, logText}
 

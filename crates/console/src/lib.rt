@@ -6,9 +6,10 @@ ghost use mathlib.Core.Path.{_≡_};
 ghost use Prim.Native.Nat.{_+_, _≤_};
 ghost use lib.ListN.{length};
 ghost use Rattle.answers.specs.Buffers.{overwritten};
-ghost use Rattle.requests.specs.WithinLimits.{headerIn};
+ghost use Rattle.limits.specs.WithinLimits.{headerIn};
 ghost use Rattle.plans.specs.Plan.{byKind};
-ghost use Rattle.engine.specs.Run.{outcome, Met};
+ghost use Rattle.demands.specs.Run.{outcome};
+ghost use Rattle.engine.specs.Answer.{Met};
 ghost use Rattle.console.specs.Bytes.{joinedFrom, wholeCount, wholeWords, handedOver, requestOf};
 ghost use Rattle.console.specs.Desk.{deskText, hostText, Printed};
 
@@ -85,7 +86,7 @@ fn run_bytes(
     to_words(bytes, &mut words);
     let count = handed_over(bytes.len());
     let answer = engine::run(&words[..count], cells, log, distances, parents, route);
-    let header = planner::read_header(words[0]);
+    let header = headers::read_header(words[0]);
     Served { header, answer }
 }
 

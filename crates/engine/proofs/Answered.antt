@@ -1,4 +1,4 @@
--- What a request's run answers and leaves, by the ways out of `run`. Rests on Ran, Placed and the laws of requests.
+-- What a request's run answers and leaves, by the ways out of `run`. Rests on demands' Ran, Placed and the laws of limits.
 use mathlib.Core.Path.{_≡_, refl, sym, ap, _∙_}
 use mathlib.Core.Logic.{⊎-elim}
 use mathlib.Core.List.{List}
@@ -14,18 +14,19 @@ use Rattle.plans.specs.declared.Header.{Header}
 use Rattle.plans.specs.Plan.{Accepted, planOf, wordCountOf, cellsOf, Kind, resultsOf}
 use Rattle.plans.proofs.Addresses.{results-inside}
 use Rattle.runner.specs.declared.PlanReport.{PlanReport}
-use Rattle.planner.specs.declared.Figures.{Figures}
-use Rattle.planner.specs.Figures.{cellIn, spanIn, Figured}
-use Rattle.requests.specs.Refusal.{roomFor}
-use Rattle.requests.specs.WithinLimits.{headerIn, wordsIn, WithinLimits}
-use Rattle.requests.proofs.WithinLimits.{accepted-in, counted-in, cells-in, log-in, results-in}
+use Rattle.headers.specs.declared.Figures.{Figures}
+use Rattle.headers.specs.Figures.{cellIn, spanIn, Figured}
+use Rattle.limits.specs.Refusal.{roomFor}
+use Rattle.limits.specs.WithinLimits.{headerIn, wordsIn, WithinLimits}
+use Rattle.limits.proofs.WithinLimits.{accepted-in, counted-in, cells-in, log-in, results-in}
 use Rattle.intake.specs.Intake.{copied, startingCells}
 use Rattle.intake.proofs.Laid.{start-long}
 use Rattle.engine.specs.declared.Answer.the-variants.{Ran, NegativeCycle, Refused}
-use Rattle.engine.specs.Run.{Lent, lengthsOf, refusalOf, verdictAt, There, verdictOf, outcome, Met}
+use Rattle.demands.specs.Run.{Lent, lengthsOf, refusalOf, verdictAt, There, verdictOf, outcome}
+use Rattle.engine.specs.Answer.{Met}
 use Rattle.engine.specs.Carry.{Ready, Carried}
-use Rattle.engine.proofs.Logs.{log-length}
-use Rattle.engine.proofs.Ran.{inside, ended, verdict-of}
+use Rattle.demands.proofs.Logs.{log-length}
+use Rattle.demands.proofs.Ran.{inside, ended, verdict-of}
 use Rattle.engine.proofs.Placed.{verdict-below}
 
 pub refused : (request : List ℕ) (lent : Lent) (r : Refusal) → some r ≡ refusalOf request lent

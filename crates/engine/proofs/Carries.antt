@@ -1,4 +1,5 @@
--- A plan written to the log, carried out from there and its verdict published: what `carry` leaves. Rests on Logs and depths' Rounds.
+-- A plan written to the log, carried out from there and its verdict published: what `carry` leaves. Rests on Placed, demands' Logs
+-- and depths' Rounds.
 use mathlib.Core.Path.{_≡_, sym, ap, _∙_}
 use mathlib.Core.List.{List, _++_}
 use Prim.Native.Nat.{ℕ, _+_, _≤_}
@@ -16,12 +17,12 @@ use Rattle.plans.proofs.Figures.{length-plan}
 use Rattle.depths.proofs.Rounds.{rounds-log}
 use Rattle.answers.proofs.Filled.{from-start}
 use Rattle.answers.specs.Buffers.{overwritten}
-use Rattle.requests.specs.Refusal.{logLengthOf}
+use Rattle.limits.specs.Refusal.{logLengthOf}
 use Rattle.fields.proofs.Sets.{sets-append}
-use Rattle.engine.specs.Run.{openedAt, There}
+use Rattle.demands.specs.Run.{openedAt, There}
 use Rattle.engine.specs.Carry.{Ready, Carried}
 use Rattle.engine.proofs.Placed.{verdict-below}
-use Rattle.engine.proofs.Logs.{log-plan, log-length}
+use Rattle.demands.proofs.Logs.{log-plan, log-length}
 
 -- After words from the start of a buffer, more words.
 further : (xs ys buffer : List ℕ) → length xs + length ys ≤ length buffer

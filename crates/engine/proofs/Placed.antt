@@ -16,10 +16,10 @@ use Rattle.machine.proofs.Tested.{zero-test, ne-test}
 use Rattle.plans.specs.declared.Header.{Header}
 use Rattle.plans.specs.Plan.{Accepted, cellsOf, verdictCell}
 use Rattle.plans.proofs.Headers.{by-method}
-use Rattle.planner.specs.declared.VerdictCell.{VerdictCell}
-use Rattle.planner.specs.declared.VerdictCell.the-variants.{At, Nothing}
-use Rattle.planner.specs.Figures.{cellIn}
-use Rattle.engine.specs.Run.{verdictAt, openedAt, There}
+use Rattle.headers.specs.declared.VerdictCell.{VerdictCell}
+use Rattle.headers.specs.declared.VerdictCell.the-variants.{At, Nothing}
+use Rattle.headers.specs.Figures.{cellIn}
+use Rattle.demands.specs.Run.{verdictAt, openedAt, There}
 
 -- ---- it is there
 

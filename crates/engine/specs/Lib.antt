@@ -1,5 +1,2 @@
-pub mod Run
+pub mod Answer
 pub mod Carry
-pub mod Network
-pub mod Besides
-pub mod Demands

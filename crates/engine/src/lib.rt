@@ -1,11 +1,12 @@
 // The engine: a request run on lent buffers.
-// Rests on requests (checks), intake (the starting cells), planner (the plan and its rounds) and runner (carrying out).
+// Rests on demands (what it promises), requests (checks), headers (figures and rounds), intake (the starting cells), planner (the plan) and
+// runner (carrying out).
 use answers::Checked;
 use answers::Refusal;
-use planner::VerdictCell;
+use headers::VerdictCell;
+use limits::Lengths;
 use plans::Header;
 use plans::Span;
-use requests::Lengths;
 use runner::PlanReport;
 ghost use mathlib.Core.Path.{_≡_};
 ghost use Prim.Native.Nat.{_+_, _≤_};
@@ -13,9 +14,10 @@ ghost use lib.ListN.{length};
 ghost use lib.Seq.{sets};
 ghost use Rattle.machine.specs.Effect.{cellAt};
 ghost use Rattle.plans.specs.Plan.{verdictCell, published, byKind};
-ghost use Rattle.planner.specs.Figures.{cellIn};
+ghost use Rattle.headers.specs.Figures.{cellIn};
 ghost use Rattle.intake.specs.Intake.{copied};
-ghost use Rattle.engine.specs.Run.{verdictAt, openedAt, There, outcome, Met};
+ghost use Rattle.demands.specs.Run.{verdictAt, openedAt, There, outcome};
+ghost use Rattle.engine.specs.Answer.{Met};
 ghost use Rattle.engine.specs.Carry.{Ready, Carried};
 
 // What a run answers besides its buffers.
@@ -55,7 +57,7 @@ fn carry(h: Header, verdict: VerdictCell, cells: &mut [i64], log: &mut [u64]) ->
     let size = planner::fill(h, log);
     runner::carry_words(&log[..size], cells);
     let length = publish(verdict, cells, log, size);
-    let rounds = planner::rounds_of(h);
+    let rounds = headers::rounds_of(h);
     PlanReport { rounds, length }
 }
 
@@ -106,8 +108,8 @@ pub fn run(
     if let Checked::Refused(refusal) = requests::check(request, lent) {
         return Answer::Refused(refusal);
     }
-    let h = planner::read_header(request[0]);
-    let f = planner::figures_of(h);
+    let h = headers::read_header(request[0]);
+    let f = headers::figures_of(h);
     intake::lay(h, request, cells);
     let verdict = f.verdict;
     let carried = carry(h, verdict, cells, log);

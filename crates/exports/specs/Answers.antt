@@ -10,7 +10,7 @@ use Rattle.answers.specs.Told.{Told}
 use Rattle.plans.specs.Plan.{Kind}
 use Rattle.planner.specs.Written.{planRefusal, planWords, answerOf, bufferOf}
 use Rattle.runner.specs.Runner.{PlanOutcome}
-use Rattle.engine.specs.Run.{Outcome}
+use Rattle.demands.specs.Run.{Outcome}
 
 -- Whether there is a place, and the place.
 abbrev pub placeNumbers : Option ℕ → (rest : List ℕ) → List ℕ

@@ -9,9 +9,11 @@ ghost use mathlib.Core.Path.{_≡_};
 ghost use Rattle.answers.specs.Told.{refused};
 ghost use Rattle.plans.specs.Plan.{byKind};
 ghost use Rattle.planner.specs.Written.{toldByWriting};
-ghost use Rattle.requests.specs.Sizes.{toldBySizes, sizesTold};
+ghost use Rattle.limits.specs.Sizes.{sizesTold};
+ghost use Rattle.requests.specs.Sizes.{toldBySizes};
 ghost use Rattle.runner.specs.Runner.{toldByPlan, planOutcome};
-ghost use Rattle.engine.specs.Run.{toldByRun, outcome};
+ghost use Rattle.demands.specs.Run.{outcome};
+ghost use Rattle.engine.specs.Answer.{toldByRun};
 ghost use Rattle.exports.specs.Answers.{numbersOf, LeftByRun, LeftByPlan, LeftByWriting};
 
 fn refusal_numbers(r: Refusal) -> [u64; 8]

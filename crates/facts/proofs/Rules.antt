@@ -16,17 +16,18 @@ use Rattle.plans.specs.Method5 as Method5
 use Rattle.plans.specs.Plan.{Kind, instructionsOf, planOf, wordCountOf, cellsOf, resultsOf, lengthOf, verdictCell}
 use Rattle.plans.proofs.EachKind.{each-kind}
 use Rattle.plans.proofs.Facts as Plans
-use Rattle.planner.specs.Refusal.{headerRefusal}
+use Rattle.headers.specs.Refusal.{headerRefusal}
+use Rattle.headers.proofs.Facts as Headers
 use Rattle.planner.proofs.Facts as Planner
 use Rattle.runner.specs.Runner.{firstBad, logSize, runnerRefusal, planOutcome}
 use Rattle.runner.proofs.Facts as Runner
-use Rattle.requests.specs.Word.{weightOf}
-use Rattle.requests.specs.Refusal.{logLengthOf, sizesRefusal, inRange, edgeRefusal, sortedRefusal, entryRefusal, wordRefusal, wordsRefusal, lastRefusal, requestRefusal}
-use Rattle.requests.proofs.Facts as Requests
+use Rattle.limits.specs.Word.{weightOf}
+use Rattle.limits.specs.Refusal.{logLengthOf, sizesRefusal, inRange, edgeRefusal, sortedRefusal, entryRefusal, wordRefusal, wordsRefusal, lastRefusal, requestRefusal}
+use Rattle.limits.proofs.Facts as Limits
 use Rattle.intake.specs.Intake.{stripsOf, sourceOf, laid, copied, startingCells}
 use Rattle.intake.proofs.Facts as Intake
-use Rattle.engine.specs.Run.{Outcome, verdictOf, outcome}
-use Rattle.engine.specs.Network.{sourcesOf}
+use Rattle.demands.specs.Run.{Outcome, verdictOf, outcome}
+use Rattle.demands.specs.Network.{sourcesOf}
 use Rattle.facts.specs.Rules.{Rules}
 
 -- Outcomes are the same where their parts are.
@@ -40,8 +41,9 @@ rules =
       answers = Answers.facts;
       machine = Machine.facts;
       plans = Plans.facts;
+      headers = Headers.facts;
       planner = Planner.facts;
-      requests = Requests.facts;
+      limits = Limits.facts;
       intake = Intake.facts;
       runner = Runner.facts;
       one = (refl, refl, refl, refl);

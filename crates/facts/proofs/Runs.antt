@@ -12,11 +12,11 @@ use Rattle.plans.specs.Method2 as Method2
 use Rattle.plans.specs.Method3 as Method3
 use Rattle.plans.specs.Method5 as Method5
 use Rattle.plans.specs.Plan.{instructionsOf, planOf, wordCountOf, cellsOf, resultsOf, lengthOf, verdictCell}
-use Rattle.planner.specs.Refusal.{headerRefusal}
-use Rattle.requests.specs.Word.{weightOf}
-use Rattle.requests.specs.Refusal.{logLengthOf, sizesRefusal, inRange, edgeRefusal, sortedRefusal, entryRefusal, wordRefusal, wordsRefusal, lastRefusal, requestRefusal}
+use Rattle.headers.specs.Refusal.{headerRefusal}
+use Rattle.limits.specs.Word.{weightOf}
+use Rattle.limits.specs.Refusal.{logLengthOf, sizesRefusal, inRange, edgeRefusal, sortedRefusal, entryRefusal, wordRefusal, wordsRefusal, lastRefusal, requestRefusal}
 use Rattle.intake.specs.Intake.{stripsOf, sourceOf, laid, copied, startingCells}
-use Rattle.engine.specs.Run.{verdictOf, outcome}
+use Rattle.demands.specs.Run.{verdictOf, outcome}
 use Rattle.facts.specs.Corners.{Corners}
 use Rattle.facts.specs.Sorted.{Sorted}
 use Rattle.facts.specs.Routed.{Routed}

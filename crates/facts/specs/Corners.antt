@@ -1,5 +1,5 @@
 -- Document 01, "Requests at the edges": the eleven rows, in its order, about the outcomes of runs and the words of plans.
--- Rests on engine.
+-- Rests on demands.
 use mathlib.Core.Path.{_≡_}
 use mathlib.Core.List.{[], _∷_, _++_}
 use mathlib.Core.Option.{none, some}
@@ -12,7 +12,7 @@ use Rattle.machine.specs.Log.{carried}
 use Rattle.plans.specs.Limits.{far}
 use Rattle.plans.specs.Plan.{headerOf, planOf, distances, parents}
 use Rattle.planner.specs.Facts.{smallestPlan}
-use Rattle.engine.specs.Run.{Lent, Outcome, outcome}
+use Rattle.demands.specs.Run.{Lent, Outcome, outcome}
 
 -- Buffers lent with zeros: cells, log words, and places of each results buffer.
 abbrev pub zeros : (cells log results : ℕ) → Lent

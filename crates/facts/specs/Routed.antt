@@ -1,11 +1,11 @@
--- Document 02, ask 5: runs of method 5, about their outcomes. After the two smallest, each tells a wrong route from the right one. Rests on engine.
+-- Document 02, ask 5: runs of method 5, about their outcomes. After the two smallest, each tells a wrong route from the right one. Rests on demands.
 use mathlib.Core.Path.{_≡_}
 use mathlib.Core.List.{List, [], _∷_}
 use mathlib.Core.Option.{none}
 use Prim.Native.Nat.{ℕ}
 use lib.IntN.{ℤ, pos, negsuc}
 use Rattle.plans.specs.Plan.{route}
-use Rattle.engine.specs.Run.{Outcome, outcome}
+use Rattle.demands.specs.Run.{Outcome, outcome}
 use Rattle.facts.specs.Corners.{zeros, ran}
 
 -- A run that shows this route, in a buffer of n zeros: the last one stays.

@@ -1,5 +1,5 @@
--- The rules as one table of facts: what the definitions of each crate give for literal words, and each of the fifteen numbers from a
--- request or a foreign plan to its answer. Rests on engine, and on the tables of the crates below.
+-- The rules as one table of facts: what the definitions of each crate give for literal words, and each of the sixteen numbers from a
+-- request or a foreign plan to its answer. Rests on demands, and on the tables of the crates below.
 use mathlib.Core.Path.{_≡_}
 use mathlib.Core.List.{List, [], _∷_, _++_}
 use mathlib.Core.Option.{none}
@@ -12,14 +12,15 @@ use Rattle.answers.specs.Facts.{byNumber, atPlace}
 use Rattle.machine.specs.Facts as Machine
 use Rattle.plans.specs.Plan.{headerOf, distances, parents, byKind}
 use Rattle.plans.specs.Facts as Plans
+use Rattle.headers.specs.Facts as Headers
 use Rattle.planner.specs.Facts as Planner
 use Rattle.planner.specs.Facts.{smallestPlan}
-use Rattle.requests.specs.Facts as Requests
+use Rattle.limits.specs.Facts as Limits
 use Rattle.intake.specs.Facts as Intake
 use Rattle.runner.specs.Facts as Runner
 use Rattle.runner.specs.Runner.{planOutcome}
-use Rattle.engine.specs.Run.{Lent, outcome}
-use Rattle.engine.specs.Network.{sourcesOf}
+use Rattle.demands.specs.Run.{Lent, outcome}
+use Rattle.demands.specs.Network.{sourcesOf}
 
 -- Buffers lent with nines: cells, log words, distances, parents, and two places for a route.
 abbrev pub nines : (cells log distances parents : ℕ) → Lent
@@ -42,9 +43,10 @@ pub record Rules : Type 0 where
   -- "Plan of method 1", "Plan of method 2", those of methods 3 and 5, and the limits of "Request words"
   pub plans : Plans.Facts
   -- "Who caused it": headers, writing a plan
+  pub headers : Headers.Facts
   pub planner : Planner.Facts
   -- "Who caused it": requests
-  pub requests : Requests.Facts
+  pub limits : Limits.Facts
   -- Intake: where a cell's first number comes from
   pub intake : Intake.Facts
   -- "Who caused it": foreign plans

@@ -1,4 +1,4 @@
--- Document 02, ask 3: runs of method 3, about their outcomes. After the two smallest, each tells a wrong rule from the right one. Rests on engine.
+-- Document 02, ask 3: runs of method 3, about their outcomes. After the two smallest, each tells a wrong rule from the right one. Rests on demands.
 use mathlib.Core.Path.{_≡_}
 use mathlib.Core.List.{List, [], _∷_}
 use mathlib.Core.Option.{none}
@@ -6,7 +6,7 @@ use Prim.Native.Nat.{ℕ}
 use lib.IntN.{ℤ, pos, negsuc}
 use Rattle.plans.specs.Limits.{far}
 use Rattle.plans.specs.Plan.{distances, parents}
-use Rattle.engine.specs.Run.{Outcome, outcome}
+use Rattle.demands.specs.Run.{Outcome, outcome}
 use Rattle.facts.specs.Corners.{zeros, ran}
 
 -- A run that gives these distances and parents.

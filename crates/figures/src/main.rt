@@ -8,7 +8,7 @@ use plans::Header;
 ghost use mathlib.Core.Path.{_≡_};
 ghost use Prim.Native.Nat.{_^_, _<_, _≤_};
 ghost use lib.ListN.{length};
-ghost use Rattle.engine.specs.Run.{toldByRun};
+ghost use Rattle.engine.specs.Answer.{toldByRun};
 
 // -1 in the 32 bits of a price; in a table it says that there is no lane.
 const MINUS_ONE: u64 = 4294967295;
@@ -306,7 +306,7 @@ fn put_run(
 fn show(request: &[u64])
     requires { ⌜ 1 ≤ length (now request) ⌝ }
 {
-    let h = planner::read_header(request[0]);
+    let h = headers::read_header(request[0]);
     let mut cells = [0i64; 8874];
     let mut log = [0u64; 497321];
     let mut distances = [0i64; 32];

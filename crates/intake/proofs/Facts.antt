@@ -3,7 +3,7 @@ use mathlib.Core.Path.{refl}
 use Rattle.fields.specs.Fields.{signedOf}
 use Rattle.plans.specs.Blocks.{flat}
 use Rattle.plans.specs.Plan.{cellsOf}
-use Rattle.requests.specs.Word.{weightOf}
+use Rattle.limits.specs.Word.{weightOf}
 use Rattle.intake.specs.Intake.{stripsOf, sourceOf, laid, copied, startingCells}
 use Rattle.intake.specs.Facts.{Facts}
 

@@ -23,8 +23,8 @@ use Rattle.plans.specs.Regions.{cell}
 use Rattle.plans.specs.Method2 as Method2
 use Rattle.plans.specs.Plan.{Accepted, wordCountOf, cellsOf}
 use Rattle.plans.proofs.Headers.{by-method}
-use Rattle.requests.specs.Word.{destinationIn, fromField, toField, weightOf}
-use Rattle.requests.proofs.Sizes.{cells-one, cells-two, cells-three, cells-five}
+use Rattle.limits.specs.Word.{destinationIn, fromField, toField, weightOf}
+use Rattle.limits.proofs.Sizes.{cells-one, cells-two, cells-three, cells-five}
 use Rattle.intake.specs.declared.Part.the-variants.{Entry, Whole}
 use Rattle.intake.specs.declared.Strip.{Strip}
 use Rattle.intake.specs.Intake.{strip, edgeStrips, stripsOf, Source, nothing, sourceIn, covers, sourceFrom, sourceOf, orFar, partOf, laid, copied, startingCells, stripNumbers, StripFits, empty, mostStrips, padded}

@@ -12,7 +12,7 @@ use Rattle.plans.specs.declared.Header.{Header}
 use Rattle.plans.specs.Limits.{far, noEdge, byMethod}
 use Rattle.plans.specs.Blocks.{flat}
 use Rattle.plans.specs.Plan.{cellsOf}
-use Rattle.requests.specs.Word.{fromField, toField, weightOf}
+use Rattle.limits.specs.Word.{fromField, toField, weightOf}
 use Rattle.intake.specs.declared.Part.{Part}
 use Rattle.intake.specs.declared.Part.the-variants.{From, To, Weight, Entry, Whole}
 use Rattle.intake.specs.declared.Strip.{Strip}

@@ -1,5 +1,5 @@
 // Intake: the request's words laid into cells, by strips that follow from the header.
-// Rests on requests, plans and fields.
+// Rests on headers, requests, plans and fields.
 use plans::Header;
 ghost use mathlib.Core.Path.{_≡_};
 ghost use mathlib.Core.List.{[], _∷_, _++_};
@@ -127,7 +127,7 @@ pub fn lay(h: Header, request: &[u64], cells: &mut [i64])
     requires { ⌜ Accepted h × (length (drop 1 (now request)) ≡ wordCountOf h) × (cellsOf h ≤ length (now cells)) ⌝ }
     ensures { λ _. ⌜ now (cells .exit) ≡ startingCells h (drop 1 (now (request .entry))) (now (cells .entry)) ⌝ }
 {
-    let f = planner::figures_of(h);
+    let f = headers::figures_of(h);
     clear(f.cells, cells);
     let strips = strips_of(h);
     let mut k: usize = 0;

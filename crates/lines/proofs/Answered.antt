@@ -1,5 +1,5 @@
 -- From what a run answers and leaves to the text of its outcome.
--- Rests on Fits, answers' Told and requests' Numbers.
+-- Rests on Fits, answers' Told and limits' Numbers.
 use mathlib.Core.Path.{_≡_, refl, sym, ap, _∙_}
 use mathlib.Core.Bool.{Bool, true, false, cond}
 use mathlib.Core.List.{List, []}
@@ -14,12 +14,13 @@ use Rattle.answers.specs.Told.{refused, Apart}
 use Rattle.answers.proofs.Told.{met-by}
 use Rattle.plans.specs.declared.Header.{Header}
 use Rattle.plans.specs.Plan.{distances, parents, route, byKind}
-use Rattle.requests.specs.WithinLimits.{headerIn}
-use Rattle.requests.proofs.Numbers.{request-apart}
+use Rattle.limits.specs.WithinLimits.{headerIn}
+use Rattle.limits.proofs.Numbers.{request-apart}
 use Rattle.engine.specs.declared.Answer.{Answer}
 use Rattle.engine.specs.declared.Answer.the-variants.{Ran, NegativeCycle, Refused}
-use Rattle.engine.specs.Run.{toldByRun, Lent, refusalOf, verdictOfRun, outcomeBy, outcome, Met}
-use Rattle.engine.proofs.Refused.{ran-values}
+use Rattle.demands.specs.Run.{Lent, refusalOf, verdictOfRun, outcomeBy, outcome}
+use Rattle.engine.specs.Answer.{toldByRun, Met}
+use Rattle.demands.proofs.Refused.{ran-values}
 use Rattle.lines.specs.Texts.{routeText, refusalText, toldText, textOf, toldLog, logText, Distinct}
 use Rattle.lines.proofs.Fits as Fits
 use Rattle.lines.proofs.Fits.{log-fits}

@@ -1,5 +1,5 @@
 -- What an outcome tells is bounded: a run has 1 to 32 vertices, and its log is no longer than the lent one.
--- Rests on requests' WithinLimits and Numbers.
+-- Rests on limits' WithinLimits and Numbers.
 use mathlib.Core.Path.{_≡_, refl}
 use mathlib.Core.Bool.{true≢false}
 use mathlib.Core.List.{List}
@@ -11,10 +11,10 @@ use Rattle.answers.specs.declared.Refusal.{Refusal}
 use Rattle.answers.specs.Told.{Apart}
 use Rattle.answers.specs.Buffers.{overwritten}
 use Rattle.answers.proofs.Meets.{Meets}
-use Rattle.requests.specs.WithinLimits.{headerIn}
-use Rattle.requests.proofs.WithinLimits.{within, accepted-in}
-use Rattle.requests.proofs.Numbers.{request-apart}
-use Rattle.engine.specs.Run.{Lent, logOfRun, verdictOfRun, refusalOf, ranBy, outcomeBy, outcome}
+use Rattle.limits.specs.WithinLimits.{headerIn}
+use Rattle.limits.proofs.WithinLimits.{within, accepted-in}
+use Rattle.limits.proofs.Numbers.{request-apart}
+use Rattle.demands.specs.Run.{Lent, logOfRun, verdictOfRun, refusalOf, ranBy, outcomeBy, outcome}
 
 overwritten-length : (xs ys : List ℕ) → length xs ≤ length (overwritten xs ys)
 overwritten-length xs ys = omega (arith, length-append xs (drop (length xs) ys))

@@ -1,5 +1,5 @@
 -- The text of a run's outcome, in bytes, as the desk's program prints it (document 01, "The desk's program"), and its log's text.
--- Rests on the engine's outcomes and text's lines.
+-- Rests on the outcomes of runs and text's lines.
 use mathlib.Core.Bool.{cond, _||_}
 use mathlib.Core.List.{List, [], _∷_, _++_}
 use Prim.Native.Nat.{ℕ, _-_}
@@ -17,10 +17,10 @@ use Rattle.plans.specs.Blocks.{flat}
 use Rattle.plans.specs.Limits.{far, byMethod}
 use Rattle.plans.specs.declared.Header.{Header}
 use Rattle.plans.specs.Plan.{distances, parents, route}
-use Rattle.requests.specs.WithinLimits.{headerIn}
+use Rattle.limits.specs.WithinLimits.{headerIn}
 use Rattle.engine.specs.declared.Answer.{Answer}
 use Rattle.engine.specs.declared.Answer.the-variants.{Ran, NegativeCycle, Refused}
-use Rattle.engine.specs.Run.{Outcome}
+use Rattle.demands.specs.Run.{Outcome}
 
 -- ---- `yard distance parent`
 

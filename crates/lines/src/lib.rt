@@ -8,7 +8,7 @@ ghost use mathlib.Core.Path.{_≡_};
 ghost use Prim.Native.Nat.{_+_, _*_, _<_, _≤_};
 ghost use lib.ListN.{length, getD};
 ghost use Rattle.text.specs.Text.{Put};
-ghost use Rattle.engine.specs.Run.{valuesOf, toldByRun};
+ghost use Rattle.engine.specs.Answer.{valuesOf, toldByRun};
 ghost use Rattle.lines.specs.Texts.{distanceText, parentText, rowText, rowsText, stepText, stepsText, routeText, resultsText, refusalText, toldText, wordsText, toldLog, Distinct};
 
 // ---- an answer

@@ -5,7 +5,7 @@ use mathlib.Core.Option.{Option, none, some}
 use lib.IntN.{ℤ}
 use lib.Signed.{ltZ}
 use Rattle.machine.specs.Instruction.{Instruction, SET, COPY, ADD, LESS, EQUAL, BOTH, MOVEIF, OPEN, addresses, All}
-use Rattle.machine.specs.Effect.{Effect, writes, nothing, effect, wrapAdd, bit, eqZ, both, pick}
+use Rattle.machine.specs.Effect.{Effect, writes, nothing, effect, wrapAdd, bit, eqZ, both}
 use Rattle.machine.specs.Depth.{reads, target}
 
 module _ {A : Type 0} where

@@ -1,4 +1,4 @@
--- What writing a plan answers and leaves, by the ways out of `write_plan`. Rests on Headers.
+-- What writing a plan answers and leaves, by the ways out of `write_plan`. Rests on the definitions alone.
 use mathlib.Core.Path.{_≡_, refl, sym, ap, _∙_}
 use mathlib.Core.Option.{Option, none, some}
 use mathlib.Core.List.{List, [], _∷_, _++_}
@@ -12,7 +12,7 @@ use Rattle.answers.specs.Refusal.{Method, Log, need, orElse}
 use Rattle.plans.specs.declared.Header.{Header}
 use Rattle.plans.specs.Plan.{headerOf, planOf}
 use Rattle.planner.specs.declared.Written.the-variants.{Length, Refused}
-use Rattle.planner.specs.Refusal.{headerRefusal}
+use Rattle.headers.specs.Refusal.{headerRefusal}
 use Rattle.planner.specs.Written.{planRefusal, planWords, WrittenPlan}
 
 refused : (header buffer : List ℕ) (r : Refusal) → planRefusal header (length buffer) ≡ some r

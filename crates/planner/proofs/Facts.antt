@@ -9,7 +9,7 @@ use Rattle.plans.specs.Method2 as Method2
 use Rattle.plans.specs.Method3 as Method3
 use Rattle.plans.specs.Method5 as Method5
 use Rattle.plans.specs.Plan.{instructionsOf, planOf}
-use Rattle.planner.specs.Refusal.{headerRefusal}
+use Rattle.headers.specs.Refusal.{headerRefusal}
 use Rattle.planner.specs.Written.{planRefusal}
 use Rattle.planner.specs.Facts.{Facts}
 
@@ -17,9 +17,6 @@ pub facts : Facts
 unfolding bitsOf packed packedSet flat instructions Method1.plan Method2.plan Method3.plan Method5.plan instructionsOf planOf headerRefusal planRefusal
 facts =
     record {
-      ends = (refl, refl, refl, refl, refl, refl, refl, refl, refl, refl, refl, refl, refl, refl, refl, refl, refl);
-      ends5 = (refl, refl, refl, refl, refl, refl, refl);
-      order = (refl, refl, refl, refl, refl, refl, refl, refl);
       writing-first = (refl, refl, refl, refl, refl, refl);
       writing-short = (refl, refl, refl, refl, refl, refl);
       writing = (refl, refl, refl, refl, refl, refl);

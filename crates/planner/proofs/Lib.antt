@@ -1,6 +1,4 @@
 pub mod Facts
-pub mod Headers
 pub mod Answers
-pub mod Figured
 pub mod Tables
 pub mod Fills

@@ -28,7 +28,7 @@ use Rattle.tables.proofs.Tabled as Tabled
 use Rattle.tables.proofs.Tabled.{SameRows}
 use Rattle.tables.proofs.Written.{nothing, then, ahead}
 use Rattle.planner.specs.Written.{solveWords}
-use Rattle.planner.proofs.Figured.{sizes}
+use Rattle.headers.proofs.Figured.{sizes}
 
 -- ---- any method
 

@@ -1,4 +1,2 @@
-pub mod Figures
-pub mod Refusal
 pub mod Written
 pub mod Facts

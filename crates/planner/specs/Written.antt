@@ -18,7 +18,7 @@ use Rattle.plans.specs.Method1 as Method1
 use Rattle.plans.specs.Plan.{headerOf, planOf}
 use Rattle.planner.specs.declared.Written.{Written}
 use Rattle.planner.specs.declared.Written.the-variants.{Length, Refused}
-use Rattle.planner.specs.Refusal.{headerRefusal}
+use Rattle.headers.specs.Refusal.{headerRefusal}
 
 -- 1 to 4, then 7: no header word, the header's own, a buffer of fewer words than the plan.
 unfoldable pub planRefusal : (header : List ℕ) (room : ℕ) → Option Refusal

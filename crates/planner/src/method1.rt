@@ -1,10 +1,6 @@
-// Method 1: its figures, its plan as lines, in document 01's order, and where its regions begin.
-// Rests on rows and tables.
-use crate::Figures;
-use crate::NONE_GIVEN;
-use crate::VerdictCell;
+// Method 1: its plan as lines, in document 01's order, and where its regions begin.
+// Rests on ops, rows and tables.
 use plans::Header;
-use plans::Span;
 use rows::A_;
 use rows::ADD;
 use rows::AGAIN;
@@ -28,44 +24,9 @@ use rows::VERTICES;
 ghost use mathlib.Core.Path.{_≡_};
 ghost use Prim.Native.Nat.{_≤_};
 ghost use lib.ListN.{length, drop};
-ghost use Rattle.plans.specs.Plan.{Accepted, planOf, lengthOf, roundsOfPlan};
+ghost use Rattle.plans.specs.Plan.{Accepted, planOf, lengthOf};
 ghost use Rattle.tables.specs.Writing.{RoomAt, Wrote};
-ghost use Rattle.planner.specs.Figures.{figuresOf};
 ghost use Rattle.planner.specs.Written.{solveWords};
-
-pub fn figures(h: Header) -> Figures
-    requires { ⌜ Accepted h × (h .method ≡ 1) ⌝ }
-    ensures { λ r. ⌜ r ≡ figuresOf h ⌝ }
-{
-    let n = h.vertices as usize;
-    let m = h.edges as usize;
-    let d = 3 * m;
-    let x = d + 3 * n;
-    Figures {
-        words: m,
-        cells: x + 8,
-        length: 3 * n + 4 + m * (8 * (n * n) + 3 * n - 1),
-        verdict: VerdictCell::At(x + 7),
-        distances: Span { first: d, count: n },
-        parents: Span {
-            first: d + n,
-            count: n,
-        },
-        route: NONE_GIVEN,
-    }
-}
-
-pub fn rounds(h: Header) -> u64
-    requires { ⌜ Accepted h × (h .method ≡ 1) ⌝ }
-    ensures { λ r. ⌜ r ≡ roundsOfPlan h ⌝ }
-{
-    let n = h.vertices;
-    let m = h.edges;
-    if m == 0 {
-        return 2;
-    }
-    m * (n * n + 9 * n - 9) + n + 16
-}
 
 pub const FROM: u64 = 4 << 11;
 
@@ -143,6 +104,6 @@ pub fn write(h: Header, plan: &mut [u64]) -> usize
     ensures { λ r. ⌜ Wrote (drop 1 (planOf h)) (now (plan .entry)) (now (plan .exit)) 1 r ⌝ }
 {
     let next = write_solve(h, plan);
-    plan[next] = machine::pack(machine::OPEN, 0, 3 * h.edges + 3 * h.vertices + 7, 0);
+    plan[next] = ops::pack(ops::OPEN, 0, 3 * h.edges + 3 * h.vertices + 7, 0);
     next + 1
 }

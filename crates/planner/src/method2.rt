@@ -1,10 +1,6 @@
-// Method 2: its figures, its plan as lines, in document 01's order, and where its regions begin.
+// Method 2: its plan as lines, in document 01's order, and where its regions begin.
 // Rests on rows and tables.
-use crate::Figures;
-use crate::NONE_GIVEN;
-use crate::VerdictCell;
 use plans::Header;
-use plans::Span;
 use rows::A_;
 use rows::ADD;
 use rows::AGAIN;
@@ -27,37 +23,8 @@ use rows::VERTICES;
 ghost use mathlib.Core.Path.{_≡_};
 ghost use Prim.Native.Nat.{_≤_};
 ghost use lib.ListN.{length, drop};
-ghost use Rattle.plans.specs.Plan.{Accepted, planOf, lengthOf, roundsOfPlan};
+ghost use Rattle.plans.specs.Plan.{Accepted, planOf, lengthOf};
 ghost use Rattle.tables.specs.Writing.{Wrote};
-ghost use Rattle.planner.specs.Figures.{figuresOf};
-
-pub fn figures(h: Header) -> Figures
-    requires { ⌜ Accepted h × (h .method ≡ 2) ⌝ }
-    ensures { λ r. ⌜ r ≡ figuresOf h ⌝ }
-{
-    let n = h.vertices as usize;
-    let d = n * n;
-    Figures {
-        words: d,
-        cells: d + 5 * n + 6,
-        length: d * n + 11 * d + 6 * n + 3,
-        verdict: VerdictCell::Nothing,
-        distances: Span { first: d, count: n },
-        parents: Span {
-            first: d + n,
-            count: n,
-        },
-        route: NONE_GIVEN,
-    }
-}
-
-pub fn rounds(h: Header) -> u64
-    requires { ⌜ Accepted h × (h .method ≡ 2) ⌝ }
-    ensures { λ r. ⌜ r ≡ roundsOfPlan h ⌝ }
-{
-    let n = h.vertices;
-    9 * (n * n) + 13 * n + 1
-}
 
 const U: u64 = 4 << 11;
 

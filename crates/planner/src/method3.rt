@@ -1,10 +1,6 @@
-// Method 3: its figures, its plan as lines, in document 02's order, and where its regions begin.
+// Method 3: its plan as lines, in document 02's order, and where its regions begin.
 // Rests on rows and tables.
-use crate::Figures;
-use crate::NONE_GIVEN;
-use crate::VerdictCell;
 use plans::Header;
-use plans::Span;
 use rows::A_;
 use rows::ADD;
 use rows::AGAIN;
@@ -30,42 +26,8 @@ use rows::VERTICES;
 ghost use mathlib.Core.Path.{_≡_};
 ghost use Prim.Native.Nat.{_≤_};
 ghost use lib.ListN.{length, drop};
-ghost use Rattle.plans.specs.Plan.{Accepted, planOf, lengthOf, roundsOfPlan};
+ghost use Rattle.plans.specs.Plan.{Accepted, planOf, lengthOf};
 ghost use Rattle.tables.specs.Writing.{Wrote};
-ghost use Rattle.planner.specs.Figures.{figuresOf};
-
-pub fn figures(h: Header) -> Figures
-    requires { ⌜ Accepted h × (h .method ≡ 3) ⌝ }
-    ensures { λ r. ⌜ r ≡ figuresOf h ⌝ }
-{
-    let n = h.vertices as usize;
-    let m = h.edges as usize;
-    let d = 3 * m + 1;
-    Figures {
-        words: m,
-        cells: 2 * (n * m) + 4 * m + 5 * n + 10,
-        length: 3 * (n * n) + 3 * n + 5 + m * (3 * (n * n) + 10 * n - 1),
-        verdict: VerdictCell::At(d + 5 * n + 8),
-        distances: Span { first: d, count: n },
-        parents: Span {
-            first: d + n,
-            count: n,
-        },
-        route: NONE_GIVEN,
-    }
-}
-
-pub fn rounds(h: Header) -> u64
-    requires { ⌜ Accepted h × (h .method ≡ 3) ⌝ }
-    ensures { λ r. ⌜ r ≡ roundsOfPlan h ⌝ }
-{
-    let n = h.vertices;
-    let m = h.edges;
-    if m == 0 {
-        return 8 * n + 1;
-    }
-    9 * (n * m) + n * n + 8 * n + 7
-}
 
 const FROM: u64 = 4 << 11;
 

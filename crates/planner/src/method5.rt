@@ -1,13 +1,10 @@
-// Method 5: its figures, its plan as lines after those that method 1 has too, in document 02's order, and where its regions begin.
+// Method 5: its plan as lines after those that method 1 has too, in document 02's order, and where its regions begin.
 // Rests on method 1, rows and tables.
-use crate::Figures;
-use crate::VerdictCell;
 use crate::method1::FROM;
 use crate::method1::P;
 use crate::method1::X;
 use crate::method1::Y;
 use plans::Header;
-use plans::Span;
 use rows::A_;
 use rows::COPY;
 use rows::D_;
@@ -25,46 +22,8 @@ use rows::VERTICES;
 ghost use mathlib.Core.Path.{_≡_};
 ghost use Prim.Native.Nat.{_≤_};
 ghost use lib.ListN.{length, drop};
-ghost use Rattle.plans.specs.Plan.{Accepted, planOf, lengthOf, roundsOfPlan};
+ghost use Rattle.plans.specs.Plan.{Accepted, planOf, lengthOf};
 ghost use Rattle.tables.specs.Writing.{Wrote};
-ghost use Rattle.planner.specs.Figures.{figuresOf};
-
-pub fn figures(h: Header) -> Figures
-    requires { ⌜ Accepted h × (h .method ≡ 5) ⌝ }
-    ensures { λ r. ⌜ r ≡ figuresOf h ⌝ }
-{
-    let n = h.vertices as usize;
-    let m = h.edges as usize;
-    let d = 3 * m;
-    Figures {
-        words: m + 1,
-        cells: d + 5 * n + 8,
-        length: 3 * (n * n) + 2 * n + 4 + m * (8 * (n * n) + 5 * n),
-        verdict: VerdictCell::At(d + 3 * n + 7),
-        distances: Span { first: d, count: n },
-        parents: Span {
-            first: d + n,
-            count: n,
-        },
-        route: Span {
-            first: d + 4 * n + 9,
-            count: n - 1,
-        },
-    }
-}
-
-// The check or the route is the deeper one.
-pub fn rounds(h: Header) -> u64
-    requires { ⌜ Accepted h × (h .method ≡ 5) ⌝ }
-    ensures { λ r. ⌜ r ≡ roundsOfPlan h ⌝ }
-{
-    let n = h.vertices;
-    let m = h.edges;
-    if m == 0 {
-        return machine::greater(2, n * n + 5 * n - 5);
-    }
-    m * ((n - 1) * (n + 9)) + machine::greater(m * n + n + 16, m + n * n + 5 * n + 1)
-}
 
 const Z: u64 = 11 << 11;
 

@@ -1,9 +1,10 @@
 // Requests: what a header asks for, and which refusal a request meets.
-// Rests on answers, planner, plans and fields.
+// Rests on answers, fields, headers, limits and plans.
 use answers::Checked;
 use answers::Refusal;
-use planner::Figures;
-use planner::VerdictCell;
+use headers::Figures;
+use headers::VerdictCell;
+use limits::Lengths;
 use plans::Header;
 ghost use mathlib.Core.Path.{_≡_};
 ghost use Prim.Native.Nat.{_<_};
@@ -12,20 +13,12 @@ ghost use lib.ListN.{length, drop};
 ghost use mathlib.Core.Option.{none};
 ghost use Rattle.answers.specs.Refusal.{Weight, need, found};
 ghost use Rattle.plans.specs.Plan.{Accepted, wordCountOf, everyKind};
-ghost use Rattle.planner.specs.Figures.{Figured};
-ghost use Rattle.requests.specs.Word as Word;
-ghost use Rattle.requests.specs.Word.{placedCount};
-ghost use Rattle.requests.specs.Refusal.{logLengthOf, roomFor, askedOf, sizesRefusal, inRange, edgeRefusal, sortedRefusal, entryRefusal, wordRefusal, wordsRefusal, lastRefusal, requestRefusal};
-ghost use Rattle.requests.specs.Sizes.{toldBySizes, sizesTold};
-
-// Lengths of a request's buffers, lent or asked for: cells, words of the log, and places of the results buffers, kind by kind.
-pub struct Lengths {
-    pub cells: usize,
-    pub log: usize,
-    pub distances: usize,
-    pub parents: usize,
-    pub route: usize,
-}
+ghost use Rattle.headers.specs.Figures.{Figured};
+ghost use Rattle.limits.specs.Word as Word;
+ghost use Rattle.limits.specs.Word.{placedCount};
+ghost use Rattle.limits.specs.Refusal.{logLengthOf, roomFor, askedOf, sizesRefusal, inRange, edgeRefusal, sortedRefusal, entryRefusal, wordRefusal, wordsRefusal, lastRefusal, requestRefusal};
+ghost use Rattle.limits.specs.Sizes.{sizesTold};
+ghost use Rattle.requests.specs.Sizes.{toldBySizes};
 
 pub enum Asked {
     Needs(Lengths),
@@ -67,11 +60,11 @@ pub fn sizes_needed(header: &[u64]) -> Asked
     if header.len() == 0 {
         return Asked::Refused(answers::METHOD);
     }
-    let h = planner::read_header(header[0]);
-    if let Checked::Refused(refusal) = planner::check_header(h) {
+    let h = headers::read_header(header[0]);
+    if let Checked::Refused(refusal) = headers::check_header(h) {
         return Asked::Refused(refusal);
     }
-    let f = planner::figures_of(h);
+    let f = headers::figures_of(h);
     Asked::Needs(lengths_of(h, f))
 }
 
@@ -95,7 +88,7 @@ fn check_sizes(h: Header, words: usize, lent: Lengths) -> Checked
     requires { ⌜ Accepted h ⌝ }
     ensures { λ r. ⌜ found r ≡ sizesRefusal h words lent ⌝ }
 {
-    let f = planner::figures_of(h);
+    let f = headers::figures_of(h);
     let asked = lengths_of(h, f);
     if words != f.words {
         return Checked::Refused(answers::WORDS);
@@ -235,8 +228,8 @@ pub fn check(request: &[u64], lent: Lengths) -> Checked
     if request.len() == 0 {
         return Checked::Refused(answers::METHOD);
     }
-    let h = planner::read_header(request[0]);
-    if let Checked::Refused(refusal) = planner::check_header(h) {
+    let h = headers::read_header(request[0]);
+    if let Checked::Refused(refusal) = headers::check_header(h) {
         return Checked::Refused(refusal);
     }
     if let Checked::Refused(refusal) = check_sizes(h, request.len() - 1, lent) {

@@ -1,5 +1,5 @@
 // Rows: a plan's lines made ready for a header's counts and cells, one row each. The words that rows stand for are in specs.
-// One set of functions for every method. Rests on plans (outlines), machine and fields.
+// One set of functions for every method. Rests on plans (outlines), ops and fields.
 ghost use mathlib.Core.Path.{_≡_};
 ghost use mathlib.Core.List.{[], _∷_, _++_, map};
 ghost use Prim.Native.Nat.{_+_, _*_, _^_, _<_, _≤_};
@@ -133,7 +133,7 @@ fn word_row(width: u64, env: &[u64], code: u64, op: u64) -> Row
     let b = place(env, code, 0);
     Row {
         kind: 0,
-        base: machine::pack(op, d, a, b),
+        base: ops::pack(op, d, a, b),
         outer: word_step(width, code, 0),
         middle: word_step(width, code, 1),
         inner: word_step(width, code, 2),

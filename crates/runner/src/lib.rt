@@ -1,5 +1,5 @@
 // The runner: a plan from outside, carried out on lent cells and logged.
-// Rests on answers, charge, fields and machine.
+// Rests on answers, charge, fields and ops.
 use answers::Refusal;
 ghost use mathlib.Core.Path.{_≡_};
 ghost use Prim.Native.Nat.{_^_, _≤_};
@@ -34,7 +34,7 @@ fn bad(word: u64, place: usize, count: usize) -> bool
     if PLACES <= place {
         return true;
     }
-    !machine::admits(word, count)
+    !ops::admits(word, count)
 }
 
 // The lowest bad place; the header is not tested.
@@ -58,7 +58,7 @@ fn log_length(plan: &[u64]) -> usize
     let mut size = plan.len();
     let mut j: usize = 1;
     while j < plan.len() {
-        if fields::field(plan[j], 60, 4) == machine::OPEN {
+        if fields::field(plan[j], 60, 4) == ops::OPEN {
             size += 1;
         }
         j += 1;
@@ -73,7 +73,7 @@ pub fn carry_words(words: &[u64], cells: &mut [i64])
 {
     let mut at: usize = 1;
     while at < words.len() {
-        machine::step(cells, words[at]);
+        ops::step(cells, words[at]);
         at += 1;
     }
 }
@@ -91,8 +91,8 @@ fn carry_plan(plan: &[u64], cells: &mut [i64], log: &mut [u64])
     let mut k: usize = 1;
     while k < plan.len() {
         let word = plan[k];
-        at = machine::append(cells, log, at, word);
-        machine::step(cells, word);
+        at = ops::append(cells, log, at, word);
+        ops::step(cells, word);
         k += 1;
     }
 }

@@ -5,7 +5,7 @@ use mathlib.Core.Option.{none}
 use native.Mathlib.Omega.{arith}
 use Rattle.plans.specs.Plan.{distances, parents, route, byKind}
 use Rattle.plans.proofs.EachKind.{each-kind}
-use Rattle.engine.specs.Run.{Lent, refusalOf}
+use Rattle.demands.specs.Run.{Lent, refusalOf}
 use Rattle.engine.proofs.Answered.{refused, Passed, limits, allowed, counted, cells-enough, ready, verdict-there, can-copy, cycled, ran}
 use Rattle.engine.proofs.run.Statement.{statement}
 use Rattle.engine.proofs.run.Tie as tie

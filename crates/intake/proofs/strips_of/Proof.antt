@@ -1,7 +1,7 @@
--- `intake::strips_of` meets its contract, method by method. Rests on the planner's sizes.
+-- `intake::strips_of` meets its contract, method by method. Rests on headers' sizes.
 use borrow.Author.Needs.{needs}
 use native.Mathlib.Omega.{arith}
-use Rattle.planner.proofs.Figured.{method-five, sizes}
+use Rattle.headers.proofs.Figured.{method-five, sizes}
 use Rattle.intake.specs.Intake.{stripsOf}
 use Rattle.intake.proofs.strips_of.Statement.{statement}
 use Rattle.intake.proofs.strips_of.Tie as tie

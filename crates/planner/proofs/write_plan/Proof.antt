@@ -4,8 +4,8 @@ use mathlib.Core.Path.{_≡_, sym, _∙_}
 use mathlib.Core.Option.{none}
 use native.Mathlib.Omega.{arith}
 use Rattle.plans.proofs.Figures.{length-plan}
-use Rattle.planner.specs.Refusal.{headerRefusal}
-use Rattle.planner.proofs.Headers.{accepted}
+use Rattle.headers.specs.Refusal.{headerRefusal}
+use Rattle.headers.proofs.Headers.{accepted}
 use Rattle.planner.proofs.Answers.{no-header, bad-header, too-short, all-written}
 use Rattle.planner.proofs.write_plan.Statement.{statement}
 use Rattle.planner.proofs.write_plan.Tie as tie

@@ -1,7 +1,7 @@
 -- `planner::write_words` meets its contract: the words of the header's method. Rests on Figured.
 use borrow.Author.Needs.{needs}
 use native.Mathlib.Omega.{arith}
-use Rattle.planner.proofs.Figured.{method-five}
+use Rattle.headers.proofs.Figured.{method-five}
 use Rattle.planner.proofs.write_words.Statement.{statement}
 use Rattle.planner.proofs.write_words.Tie as tie
 

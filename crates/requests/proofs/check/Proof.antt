@@ -5,7 +5,7 @@ use Prim.Native.Nat.{_+_, _≤_}
 use native.Mathlib.Omega.{arith}
 use lib.ListN.{length}
 use lib.Seq.{length-take-le}
-use Rattle.requests.proofs.Order.{no-word, header-bad, header-good, sizes-bad, counted, words-there, words-bad, last-says}
+use Rattle.limits.proofs.Order.{no-word, header-bad, header-good, sizes-bad, counted, words-there, words-bad, last-says}
 use Rattle.requests.proofs.check.Statement.{statement}
 use Rattle.requests.proofs.check.Tie as tie
 

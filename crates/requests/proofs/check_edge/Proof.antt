@@ -1,6 +1,6 @@
 -- `requests::check_edge` meets its contract: a law for each way out. Rests on Words.
 use borrow.Author.Needs.{needs}
-use Rattle.requests.proofs.Words.{spare-edge, from-high, to-high, edge-by-weight}
+use Rattle.limits.proofs.Words.{spare-edge, from-high, to-high, edge-by-weight}
 use Rattle.requests.proofs.check_edge.Statement.{statement}
 use Rattle.requests.proofs.check_edge.Tie as tie
 

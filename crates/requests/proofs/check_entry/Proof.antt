@@ -1,6 +1,6 @@
 -- `requests::check_entry` meets its contract: a law for each way out. Rests on Words.
 use borrow.Author.Needs.{needs}
-use Rattle.requests.proofs.Words.{entry-by-weight, spare-entry}
+use Rattle.limits.proofs.Words.{entry-by-weight, spare-entry}
 use Rattle.requests.proofs.check_entry.Statement.{statement}
 use Rattle.requests.proofs.check_entry.Tie as tie
 

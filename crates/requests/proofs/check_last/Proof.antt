@@ -2,8 +2,8 @@
 use native.Mathlib.Omega.{arith}
 use lib.ListN.{length-drop}
 use Rattle.plans.proofs.Headers.{edges-small}
-use Rattle.requests.proofs.Sizes.{words-five}
-use Rattle.requests.proofs.Words.{destination-high, destination-there, no-destination}
+use Rattle.limits.proofs.Sizes.{words-five}
+use Rattle.limits.proofs.Words.{destination-high, destination-there, no-destination}
 use Rattle.requests.proofs.check_last.Statement.{statement}
 use Rattle.requests.proofs.check_last.Tie as tie
 

@@ -1,6 +1,6 @@
 -- `requests::check_sizes` meets its contract: a law for each way out. Rests on Sizes.
 use borrow.Author.Needs.{needs}
-use Rattle.requests.proofs.Sizes.{words-other, cells-short, log-short, results-short, sizes-met}
+use Rattle.limits.proofs.Sizes.{words-other, cells-short, log-short, results-short, sizes-met}
 use Rattle.requests.proofs.check_sizes.Statement.{statement}
 use Rattle.requests.proofs.check_sizes.Tie as tie
 

@@ -1,6 +1,6 @@
 -- `requests::check_sorted` meets its contract: a law for each way out. Rests on Words.
 use borrow.Author.Needs.{needs}
-use Rattle.requests.proofs.Words.{edge-bad, out-of-order, in-place}
+use Rattle.limits.proofs.Words.{edge-bad, out-of-order, in-place}
 use Rattle.requests.proofs.check_sorted.Statement.{statement}
 use Rattle.requests.proofs.check_sorted.Tie as tie
 

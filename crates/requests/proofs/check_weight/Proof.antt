@@ -1,6 +1,6 @@
 -- `requests::check_weight` meets its contract: a law for each way out. Rests on Words.
 use borrow.Author.Needs.{needs}
-use Rattle.requests.proofs.Words.{weight-low, weight-high, weight-good}
+use Rattle.limits.proofs.Words.{weight-low, weight-high, weight-good}
 use Rattle.requests.proofs.check_weight.Statement.{statement}
 use Rattle.requests.proofs.check_weight.Tie as tie
 

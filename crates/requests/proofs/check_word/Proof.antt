@@ -1,7 +1,7 @@
 -- `requests::check_word` meets its contract: a law for each method. Rests on Words.
 use borrow.Author.Needs.{needs}
 use native.Mathlib.Omega.{arith}
-use Rattle.requests.proofs.Words.{an-edge, an-entry, a-sorted-edge, a-routed-edge}
+use Rattle.limits.proofs.Words.{an-edge, an-entry, a-sorted-edge, a-routed-edge}
 use Rattle.requests.proofs.check_word.Statement.{statement}
 use Rattle.requests.proofs.check_word.Tie as tie
 

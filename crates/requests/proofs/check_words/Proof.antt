@@ -3,7 +3,7 @@ use borrow.Author.Needs.{needs}
 use Prim.Native.Nat.{_-_}
 use native.Mathlib.Omega.{arith}
 use lib.ListN.{length}
-use Rattle.requests.proofs.Words.{Passed, start, refused, again, done}
+use Rattle.limits.proofs.Words.{Passed, start, refused, again, done}
 use Rattle.requests.proofs.check_words.Statement.{statement}
 use Rattle.requests.proofs.check_words.Tie as tie
 

@@ -1,6 +1,6 @@
 -- `requests::lengths_of` meets its contract. Rests on Sizes.
 use borrow.Author.Needs.{needs}
-use Rattle.requests.proofs.Sizes.{lengths-are}
+use Rattle.limits.proofs.Sizes.{lengths-are}
 use Rattle.requests.proofs.lengths_of.Statement.{statement}
 use Rattle.requests.proofs.lengths_of.Tie as tie
 

@@ -2,7 +2,7 @@
 use borrow.Author.Needs.{needs}
 use native.Mathlib.Omega.{arith}
 use Rattle.plans.proofs.Figures.{length-most}
-use Rattle.requests.proofs.Sizes.{log-opened, log-quiet}
+use Rattle.limits.proofs.Sizes.{log-opened, log-quiet}
 use Rattle.requests.proofs.log_length.Statement.{statement}
 use Rattle.requests.proofs.log_length.Tie as tie
 

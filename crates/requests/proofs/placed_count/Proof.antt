@@ -1,7 +1,7 @@
 -- `requests::placed_count` meets its contract: a law for each way out. Rests on Words.
 use native.Mathlib.Omega.{arith}
 use Rattle.plans.proofs.Bounds.{square-le}
-use Rattle.requests.proofs.Words.{placed-entries, placed-edges}
+use Rattle.limits.proofs.Words.{placed-entries, placed-edges}
 use Rattle.requests.proofs.placed_count.Statement.{statement}
 use Rattle.requests.proofs.placed_count.Tie as tie
 

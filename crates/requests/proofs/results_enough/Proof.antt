@@ -1,5 +1,5 @@
 -- `requests::results_enough` meets its contract: a law for each way out. Rests on Sizes.
-use Rattle.requests.proofs.Sizes.{distances-short, parents-short, by-route}
+use Rattle.limits.proofs.Sizes.{distances-short, parents-short, by-route}
 use Rattle.requests.proofs.results_enough.Statement.{statement}
 use Rattle.requests.proofs.results_enough.Tie as tie
 

@@ -1,7 +1,7 @@
 -- `requests::sizes_needed` meets its contract: a law for each way out. Rests on Order and Enough.
 use borrow.Author.Needs.{needs}
-use Rattle.requests.proofs.Order.{header-good}
-use Rattle.requests.proofs.Enough.{no-header, header-refused, header-asks}
+use Rattle.limits.proofs.Order.{header-good}
+use Rattle.limits.proofs.Enough.{no-header, header-refused, header-asks}
 use Rattle.requests.proofs.sizes_needed.Statement.{statement}
 use Rattle.requests.proofs.sizes_needed.Tie as tie
 

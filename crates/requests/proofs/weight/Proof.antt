@@ -2,7 +2,7 @@
 use borrow.Author.Needs.{needs}
 use mathlib.Core.Path.{_∙_}
 use Rattle.machine.proofs.Tested.{kept}
-use Rattle.requests.specs.Word.{weightOf}
+use Rattle.limits.specs.Word.{weightOf}
 use Rattle.requests.proofs.weight.Statement.{statement}
 use Rattle.requests.proofs.weight.Tie as tie
 

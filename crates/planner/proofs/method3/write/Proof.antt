@@ -4,7 +4,7 @@ use mathlib.Core.Path.{refl}
 use native.Mathlib.Omega.{arith}
 use Rattle.rows.specs.Rows.{rowsOf}
 use Rattle.rows.specs.Code.{placeOf, stepOf, setNumber, setOther, setStep, wordStep, rowOfCode}
-use Rattle.planner.proofs.Figured.{sizes}
+use Rattle.headers.proofs.Figured.{sizes}
 use Rattle.planner.proofs.Tables.{outlined3, may-write, was-written}
 use Rattle.planner.proofs.method3.write.Statement.{statement}
 use Rattle.planner.proofs.method3.write.Tie as tie

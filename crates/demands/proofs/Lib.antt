@@ -1,0 +1,12 @@
+pub mod Intake
+pub mod Logs
+pub mod Table
+pub mod Sources
+pub mod Left
+pub mod Taken
+pub mod Ran
+pub mod Copies
+pub mod Beyond
+pub mod Told
+pub mod Refused
+pub mod Theorems

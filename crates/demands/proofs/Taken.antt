@@ -1,0 +1,115 @@
+-- Intake supplies to each method what it asks, for every request within the limits; and so what the run of such a request leaves.
+-- Rests on the laws of limits.
+use mathlib.Core.Path.{_≡_, refl, _∙_}
+use mathlib.Core.Logic.{_⊎_, inl, inr}
+use mathlib.Core.List.{List}
+use Prim.Native.Nat.{ℕ, _+_, _*_, _<_, _≤_}
+use native.Mathlib.Nat.{add-zero}
+use native.Mathlib.Omega.{arith}
+use lib.Arith.{digits-lt}
+use lib.IntN.{pos, natAbs}
+use lib.ListN.{length, getD}
+use Rattle.machine.specs.Effect.{cellAt}
+use Rattle.plans.specs.declared.Header.{Header}
+use Rattle.plans.specs.Limits.{far, mostWeight}
+use Rattle.plans.specs.Plan.{cellsOf}
+use Rattle.limits.specs.Word.{destinationIn, weightOf}
+use Rattle.limits.specs.WithinLimits.{headerIn, wordsIn, WithinLimits}
+use Rattle.limits.proofs.Sizes.{cells-one, cells-two, cells-three, cells-five}
+use Rattle.limits.proofs.WithinLimits.{accepted-in, cells-in, edge-in, sorted-in, entry-in, destination-in}
+use Rattle.intake.proofs.Laid.{EdgesLaid, edges-one, edges-three, edges-five, entry-laid, destination-laid}
+use Rattle.methods.specs.Edges as Edges
+use Rattle.methods.specs.Method1 as Method1
+use Rattle.methods.specs.Method2 as Method2
+use Rattle.methods.specs.Method3 as Method3
+use Rattle.methods.specs.Method5 as Method5
+use Rattle.demands.specs.Run.{Lent, lengthsOf, startOf, cellsLeft}
+use Rattle.demands.specs.Network.{edgeOf}
+use Rattle.demands.proofs.Intake.{long}
+use Rattle.demands.proofs.Table.{tableOf, Range, natural, same-edges}
+use Rattle.demands.proofs.Left.{Left, left}
+
+module _ (request : List ℕ) (lent : Lent)
+    (w : WithinLimits request (lengthsOf lent)) where
+  abbrev h : Header
+  h = headerIn request
+
+  abbrev ws : List ℕ
+  ws = wordsIn request
+
+  pub enough : cellsOf h ≤ length (lent .cells)
+  enough = cells-in _ _ w
+
+  source-below : h .source < h .vertices
+  source-below = accepted-in _ _ w .source-there
+
+  limited : (h .method ≡ 1) ⊎ (h .method ≡ 3) ⊎ (h .method ≡ 5) → Edges.Limited mostWeight (edgeOf ws) (h .vertices) (h .edges)
+  limited e =
+      record {
+        from-below = λ i l. edge-in request _ w i e l .from-below;
+        to-below = λ i l. edge-in request _ w i e l .to-below;
+        weight-most = λ i l. edge-in request _ w i e l .weight-most;
+      }
+
+  -- A method over edges that has its cells where intake lays them.
+  given-edges : (at : Edges.Places) {to weight : ℕ} → (h .method ≡ 1) ⊎ (h .method ≡ 3) ⊎ (h .method ≡ 5) → at .count ≡ cellsOf h
+      → EdgesLaid h ws (lent .cells) to weight
+      → ((i : ℕ) → at .from i ≡ 0 + i) → ((i : ℕ) → at .to i ≡ to + i) → ((i : ℕ) → at .weight i ≡ weight + i)
+      → Edges.Laid at mostWeight (edgeOf ws) (h .vertices) (h .edges) (h .source) (startOf request lent)
+  given-edges at e count laid from to weight =
+      record {
+        enough = omega (arith, long request lent enough, enough);
+        from = λ i l. rw (from i) (laid .from-is i l);
+        to = λ i l. rw (to i) (laid .to-is i l);
+        weight = λ i l. rw (weight i) (laid .weight-is i l);
+        limited = limited e;
+        source-below = source-below;
+      }
+
+  given1 : h .method ≡ 1
+      → Edges.Laid (Method1.places (h .vertices) (h .edges)) mostWeight (edgeOf ws) (h .vertices) (h .edges) (h .source) (startOf request lent)
+  given1 e = given-edges _ (inl e) (cells-one h e) (edges-one h ws (lent .cells) e) (λ i. refl) (λ i. refl) (λ i. refl)
+
+  given3 : h .method ≡ 3
+      → Edges.Laid (Method3.places (h .vertices) (h .edges)) mostWeight (edgeOf ws) (h .vertices) (h .edges) (h .source) (startOf request lent)
+  given3 e =
+      given-edges _ (inr (inl e)) (cells-three h e) (edges-three h ws (lent .cells) e) (λ i. refl) (λ i. omega arith) (λ i. refl)
+
+  given5 : h .method ≡ 5
+      → Edges.Laid (Method5.places (h .vertices) (h .edges)) mostWeight (edgeOf ws) (h .vertices) (h .edges) (h .source) (startOf request lent)
+  given5 e = given-edges _ (inr (inr e)) (cells-five h e) (edges-five h ws (lent .cells) e) (λ i. refl) (λ i. refl) (λ i. refl)
+
+  aimed : h .method ≡ 5 → cellAt (startOf request lent) (Method5.goal (h .vertices) (h .edges)) ≡ pos (destinationIn h ws)
+  aimed e =
+      let a = accepted-in _ _ w in
+      let there = destination-in request _ w e in
+      rw add-zero (destination-laid h ws (lent .cells) e (a .vertices-some) (omega (arith, a .vertices-few)))
+
+  entry : h .method ≡ 2 → (u j : ℕ) → u < h .vertices → j < h .vertices → Range (weightOf (getD ws (u * h .vertices + j) 0))
+  entry e u j p q =
+      let n = h .vertices in
+      entry-in request _ w (u * n + j) e (digits-lt {q = u} {m = n} {r = j} {c = n} p q)
+
+  given2 : h .method ≡ 2
+      → Method2.Laid (natAbs far) mostWeight (tableOf (h .vertices) ws) (h .vertices) (h .source) (startOf request lent)
+  given2 e =
+      record {
+        enough = omega (arith, long request lent enough, cells-two h e, enough);
+        entry = λ u j p q. entry-laid h ws (lent .cells) e u j p q ∙ natural _ (entry e u j p q) .0;
+        entry-most = λ u j p q. natural _ (entry e u j p q) .1;
+        source-below = source-below;
+      }
+
+  pub ends : Left h ws (startOf request lent) (cellsLeft request lent)
+  ends =
+      left h (accepted-in _ _ w) ws (startOf request lent)
+      (record {
+        one = given1;
+        two = given2;
+        three = given3;
+        five = given5;
+        aimed = aimed;
+        there = destination-in request _ w;
+        sorted = λ e i. sorted-in request _ w i e;
+        same = λ e. same-edges (h .vertices) ws (entry e);
+      })

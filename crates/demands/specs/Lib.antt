@@ -1,0 +1,4 @@
+pub mod Run
+pub mod Network
+pub mod Besides
+pub mod Demands

@@ -1,0 +1,3 @@
+pub mod Facts
+pub mod Headers
+pub mod Figured
