@@ -1,4 +1,4 @@
-//! Prints what the desk's program prints for a request.
+//! Prints what the desk's program prints for a request: the vertices that are reached.
 //!
 //! The words are hexadecimal arguments; without any, the printed request:
 //! two vertices and one edge from 0 to 1 of weight -5.
@@ -43,7 +43,9 @@ fn print_routes(routes: &Routes) {
     );
     let lines = routes.distances.iter().zip(&routes.parents);
     for (vertex, (distance, parent)) in lines.enumerate() {
-        println!("{vertex} {} {}", or_dash(distance), or_dash(parent));
+        if let Some(distance) = distance {
+            println!("{vertex} {distance} {}", or_dash(parent));
+        }
     }
     if header.method == Method::BellmanFordRoute {
         let edges = routes.route.iter().map(|edge| format!(" {edge}"));

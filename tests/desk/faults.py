@@ -14,7 +14,6 @@ Then requests of method 5 along a row of lanes through all yards, from each yard
 to each, whose routes are told here as well.
 """
 
-import subprocess
 import sys
 from itertools import product
 from pathlib import Path
@@ -23,6 +22,7 @@ sys.path.insert(0, str(Path(__file__).resolve().parents[1] / "model"))
 
 import model
 from model import Header, Refusal
+from program import printed, to_bytes
 
 TO_YARD_1 = 1 << 48
 SPARE_BIT = 1 << 32
@@ -113,12 +113,6 @@ def sized_requests():
         yield header, [0] * (count - 1) + [SPARE_BIT], too_large or wrong
 
 
-def printed(program, sent):
-    """The lines that the program prints."""
-    ended = subprocess.run([program], input=sent, capture_output=True, check=True)
-    return ended.stdout.decode().splitlines()
-
-
 def last_lines():
     """Each request, and the last line that is told of it here, if any.
 
@@ -132,8 +126,7 @@ def last_lines():
 def main(program):
     count = 0
     for header, words, last in last_lines():
-        sent = b"".join(word.to_bytes(8, "big")
-                        for word in (model.join_header(header), *words))
+        sent = to_bytes((model.join_header(header), *words))
         lines = printed(program, sent)
         told = model.desk_lines(sent)
         if lines != told or (last and lines[-1] != last):

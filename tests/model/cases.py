@@ -1,8 +1,9 @@
 """Compares the stored output of the cases program with the model's.
 
 The requests are read from the program's own source, crates/cases/src/main.rt:
-each `send` has a name, the words and how many of their bytes are sent.  What
-the desk's program then prints is the model's to say.
+each `send` has a name, the words and how many of their bytes are sent, and each
+`send_with` an argument besides.  What the desk's program then prints is the
+model's to say.
 """
 
 import re
@@ -15,12 +16,12 @@ CRATE = Path(__file__).resolve().parents[2] / "crates" / "cases"
 STATEMENT = re.compile(
     r"let mut (?P<array>\w+) = \[(?P<fill>\w+?)u64; (?P<count>\d+)\];"
     r"|(?P<changed>\w+)\[(?P<place>\d+)\] = (?P<word>\w+);"
-    r'|send\(\s*b"(?P<name>[^"]*)",\s*&(?P<words>\[[^\]]*\]|\w+),'
-    r"\s*(?P<size>\d+),?\s*\);")
+    r'|send(?:_with\(\s*b"(?P<argument>[^"]*)",|\()\s*b"(?P<name>[^"]*)",'
+    r"\s*&(?P<words>\[[^\]]*\]|\w+),\s*(?P<size>\d+),?\s*\);")
 
 
 def requests(source):
-    """The name and the bytes of each request that the program sends."""
+    """The name, the argument and the bytes of each request that is sent."""
     arrays = {}
     for found in STATEMENT.finditer(source):
         if found["array"]:
@@ -35,17 +36,19 @@ def requests(source):
                 words = [int(word, 0)
                          for word in re.findall(r"\w+", found["words"])]
             sent = b"".join(word.to_bytes(8, "big") for word in words)
-            yield found["name"], sent[:int(found["size"])]
+            yield (found["name"], found["argument"] or "",
+                   sent[:int(found["size"])])
 
 
 def main():
     source = (CRATE / "src" / "main.rt").read_text()
     stored = (CRATE / "stdout").read_text().splitlines()
     expected, count = [], 0
-    for name, sent in requests(source):
-        expected += [name, *model.desk_lines(sent)]
+    for name, argument, sent in requests(source):
+        expected += [name, *model.desk_lines(sent, argument)]
         count += 1
-    if count != len(re.findall(r"(?<!fn )\bsend\(", source)):
+    calls = re.findall(r'\bsend(?:_with\(\s*b"[^"]*",|\()\s*b"', source)
+    if count != len(calls):
         sys.exit("cases: a request in main.rt could not be read")
     for place, (said, printed) in enumerate(zip(expected, stored), 1):
         if said != printed:

@@ -248,7 +248,8 @@ def block(case):
     lines = [" ".join(map(str, figures))]
     if verdict == 0:
         lines += model.result_lines(header, finished.distances,
-                                    finished.parents, finished.route)
+                                    finished.parents, finished.route,
+                                    all_yards=True)
     return lines
 
 

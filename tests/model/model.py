@@ -799,11 +799,15 @@ def sizes_needed(words):
 
 # The desk's program
 
-def yard_lines(distances, parents):
-    """A line `yard distance parent` for each yard, `-` for none."""
+def yard_lines(distances, parents, all_yards):
+    """A line `yard distance parent` for each yard listed, `-` for none.
+
+    An unreached yard is listed with `all_yards` alone.
+    """
     return [f"{v} {'-' if distance == FAR else distance}"
             f" {'-' if parent == -1 else parent}"
-            for v, (distance, parent) in enumerate(zip(distances, parents))]
+            for v, (distance, parent) in enumerate(zip(distances, parents))
+            if all_yards or distance != FAR]
 
 
 def route_line(route):
@@ -811,10 +815,10 @@ def route_line(route):
     return " ".join(["route", *(str(lane) for lane in route if lane != -1)])
 
 
-def result_lines(header, distances, parents, route):
+def result_lines(header, distances, parents, route, all_yards):
     """The lines of a run's results."""
     n = header.yards
-    lines = yard_lines(distances[:n], parents[:n])
+    lines = yard_lines(distances[:n], parents[:n], all_yards)
     if has_route(header):
         lines.append(route_line(route[:n - 1]))
     return lines
@@ -826,8 +830,11 @@ def refusal_line(refusal):
     return f"refused {refusal.number}{place}"
 
 
-def desk_lines(data):
-    """The lines the desk's program prints for the bytes it reads."""
+def desk_lines(data, *arguments):
+    """The lines the desk's program prints for the bytes it reads.
+
+    Every yard is listed if the first argument is `all`.
+    """
     words = [int.from_bytes(data[k:k + 8], "big")
              for k in range(0, len(data) - 7, 8)]
     results = [[0] * length for length in DESK_RESULTS]
@@ -843,4 +850,4 @@ def desk_lines(data):
     header = split_header(words[0])
     public = " ".join(map(str, header))
     return [f"{public} {answer.rounds} {answer.verdict}",
-            *result_lines(header, *results)]
+            *result_lines(header, *results, arguments[:1] == ("all",))]

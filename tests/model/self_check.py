@@ -544,8 +544,21 @@ def check_desk(checks):
                      f"desk, {request}")
     table = network.request_words(Network(2, 2, 1, [(0, 1, 3)]))
     data = b"".join(word.to_bytes(8, "big") for word in table)
-    checks.equal(model.desk_lines(data), ["2 2 0 1 63 0", "0 - -", "1 0 -"],
+    checks.equal(model.desk_lines(data), ["2 2 0 1 63 0", "1 0 -"],
                  "desk, method 2")
+
+
+def check_desk_listings(checks):
+    """The desk's lines with arguments: `all` first lists every yard."""
+    data = bytes.fromhex("1000030000100000" + "00010000FFFFFFFB")
+    listed = ["1 3 1 0 46 0", "0 0 -", "1 -5 0"]
+    for arguments in ((), ("",), ("al",), ("alll",), ("ALL",), ("all ",),
+                      ("x", "all")):
+        checks.equal(model.desk_lines(data, *arguments), listed,
+                     f"desk, arguments {arguments}")
+    for arguments in (("all",), ("all", "x")):
+        checks.equal(model.desk_lines(data, *arguments), [*listed, "2 - -"],
+                     f"desk, arguments {arguments}")
 
 
 def check_desk_method_3(checks):
@@ -573,9 +586,11 @@ def check_desk_method_5(checks):
         checks.equal(model.desk_lines(data), [*yards, line],
                      f"desk, the route to yard {destination}")
     apart = bytes.fromhex("5000020000000000" + "0000000000000001")
-    checks.equal(model.desk_lines(apart),
-                 ["5 2 0 0 9 0", "0 0 -", "1 - -", "route"],
+    checks.equal(model.desk_lines(apart), ["5 2 0 0 9 0", "0 0 -", "route"],
                  "desk, the route to an unreached yard")
+    checks.equal(model.desk_lines(apart, "all"),
+                 ["5 2 0 0 9 0", "0 0 -", "1 - -", "route"],
+                 "desk, the route to an unreached yard, all")
     printed = {
         "5000030000300000" + lanes: "refused 5",
         "5000030000300000" + lanes + "00": "refused 5",
@@ -1015,10 +1030,11 @@ def main():
                   check_depths, check_spelled_plans, check_figures_lanes,
                   check_methods, check_order_lanes, check_destination,
                   check_sorted, check_order_method_2, check_desk,
-                  check_desk_method_3, check_desk_method_5, check_plan_writer,
-                  check_foreign_words, check_foreign_order, check_replay_ends,
-                  check_random, check_sorted_shapes, check_route_shapes,
-                  check_random_walks, check_random_routes):
+                  check_desk_listings, check_desk_method_3,
+                  check_desk_method_5, check_plan_writer, check_foreign_words,
+                  check_foreign_order, check_replay_ends, check_random,
+                  check_sorted_shapes, check_route_shapes, check_random_walks,
+                  check_random_routes):
         check(checks)
     print(f"model: {checks.count} checks passed")
 

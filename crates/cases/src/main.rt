@@ -1,11 +1,11 @@
-// Requests through the desk's program: every refusal it can print, and runs of every method, each under its name.
+// Requests through the desk's program: every refusal it can print, runs of every method, and both listings, each under its name.
 // Rests on console.
 use libc::STDOUT_FILENO;
 ghost use Prim.Native.Nat.{_*_, _≤_};
 ghost use lib.ListN.{length};
 
-// Answers the first `size` bytes of `words`, as standard input brings them.
-fn send(name: &[u8], words: &[u64], size: usize)
+// Answers the first `size` bytes of `words`, as standard input brings them, with a first argument.
+fn send_with(argument: &[u8], name: &[u8], words: &[u64], size: usize)
     requires { ⌜ (size ≤ 8 * length (now words)) × (size ≤ 8208) ⌝ }
 {
     let mut bytes = [0u8; 8208];
@@ -17,8 +17,15 @@ fn send(name: &[u8], words: &[u64], size: usize)
     io::write_all(STDOUT_FILENO, name);
     io::write_all(STDOUT_FILENO, b"\n");
     let mut text = [0u8; 2894];
-    let length = console::desk_text(&bytes[..size], &mut text);
+    let length = console::desk_text(argument, &bytes[..size], &mut text);
     io::write_all(STDOUT_FILENO, &text[..length]);
+}
+
+// The same without an argument.
+fn send(name: &[u8], words: &[u64], size: usize)
+    requires { ⌜ (size ≤ 8 * length (now words)) × (size ≤ 8208) ⌝ }
+{
+    send_with(b"", name, words, size);
 }
 
 fn refused_headers() {
@@ -570,6 +577,57 @@ fn runs_of_method_5() {
     send(b"4 yards and 55 lanes in method 5", &lanes, 456);
 }
 
+// The printed case of an unreached yard: the printed request's lane among three yards. Then `all` in every other method, and with a refusal.
+fn listings() {
+    send(
+        b"an unreached yard",
+        &[0x1000030000100000, 0x00010000FFFFFFFB],
+        16,
+    );
+    send_with(
+        b"all",
+        b"an unreached yard, all",
+        &[0x1000030000100000, 0x00010000FFFFFFFB],
+        16,
+    );
+    send_with(
+        b"al",
+        b"an unreached yard, an argument that counts as none",
+        &[0x1000030000100000, 0x00010000FFFFFFFB],
+        16,
+    );
+    send_with(
+        b"all",
+        b"two yards, no lane, method 2, all",
+        &[
+            0x2000020000000001,
+            0x00000000FFFFFFFF,
+            0x00000000FFFFFFFF,
+            0x00000000FFFFFFFF,
+            0x00000000FFFFFFFF,
+        ],
+        40,
+    );
+    send_with(
+        b"all",
+        b"three yards, no lane, method 3, all",
+        &[0x3000030000000001],
+        8,
+    );
+    send_with(
+        b"all",
+        b"an unreached destination, all",
+        &[0x5000030000100000, 0x00010000FFFFFFFB, 2],
+        24,
+    );
+    send_with(
+        b"all",
+        b"one yard, a loss circle, all",
+        &[0x1000010000100000, 0x00000000FFFFFFFF],
+        16,
+    );
+}
+
 fn main() {
     refused_headers();
     refused_counts();
@@ -582,4 +640,5 @@ fn main() {
     runs_of_method_2();
     runs_of_method_3();
     runs_of_method_5();
+    listings();
 }

@@ -1,11 +1,13 @@
--- What the desk's program and `host_log` print, as functions of the bytes that they read.
+-- What the desk's program and `host_log` print, as functions of the bytes that they read and, for the desk's, of its first argument.
 -- Rests on Bytes, lines' texts and the outcomes of runs.
 use mathlib.Core.Path.{_≡_}
-use mathlib.Core.List.{List}
+use mathlib.Core.Bool.{Bool}
+use mathlib.Core.List.{List, [], _∷_}
 use Prim.Native.Nat.{ℕ}
 use lib.IntN.{pos}
 use lib.ListN.{length, replicate}
 use Rattle.io.specs.Counts.{Counts}
+use Rattle.text.specs.Text.{sameBytes}
 use Rattle.answers.specs.Buffers.{overwritten}
 use Rattle.plans.specs.Plan.{byKind}
 use Rattle.demands.specs.Run.{Lent, outcome}
@@ -21,8 +23,17 @@ deskLent =
       results = byKind (replicate 32 (pos 0)) (replicate 32 (pos 0)) (replicate 31 (pos 0));
     }
 
-unfoldable pub deskText : (bytes : List ℕ) → List ℕ
-deskText bytes = textOf (requestOf bytes) (outcome (requestOf bytes) deskLent)
+-- "all"
+abbrev pub allWord : List ℕ
+allWord = 97 ∷ 108 ∷ 108 ∷ []
+
+-- The listing of every yard is asked for by the first argument `all`. Any other counts as none, and none is the empty one (document 02, ask 6).
+abbrev pub asksAll : (argument : List ℕ) → Bool
+asksAll argument = sameBytes argument allWord
+
+-- The run does not see the argument.
+unfoldable pub deskText : (argument bytes : List ℕ) → List ℕ
+deskText argument bytes = textOf (asksAll argument) (requestOf bytes) (outcome (requestOf bytes) deskLent)
 
 unfoldable pub hostText : (bytes : List ℕ) → List ℕ
 hostText bytes = logText (outcome (requestOf bytes) deskLent)

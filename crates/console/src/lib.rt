@@ -1,4 +1,4 @@
-// The desk's program and `host_log` but for reading and writing: from the bytes of a request to the text of its answer, or of its log.
+// The desk's program and `host_log` but for reading and writing: from an argument and a request's bytes to the text of its answer, or of its log.
 // Rests on engine and lines.
 use engine::Answer;
 use plans::Header;
@@ -92,10 +92,12 @@ fn run_bytes(
 
 // ---- the texts
 
-// What the desk's program prints for the bytes that it read, from the start of `text`; the text's length is returned.
-pub fn desk_text(bytes: &[u8], text: &mut [u8; 2894]) -> usize
-    ensures { λ n. ⌜ Printed (deskText (now (bytes .entry))) (now (text .entry)) (now (text .exit)) n ⌝ }
+// What the desk's program prints for its first argument, empty where there is none, and the bytes that it read, from the start of `text`; the
+// text's length is returned.
+pub fn desk_text(argument: &[u8], bytes: &[u8], text: &mut [u8; 2894]) -> usize
+    ensures { λ n. ⌜ Printed (deskText (now (argument .entry)) (now (bytes .entry))) (now (text .entry)) (now (text .exit)) n ⌝ }
 {
+    let all = text::same(argument, b"all");
     let mut cells = [0i64; 1190];
     let mut log = [0u64; 8192];
     let mut distances = [0i64; 32];
@@ -111,7 +113,7 @@ pub fn desk_text(bytes: &[u8], text: &mut [u8; 2894]) -> usize
     );
     let header = served.header;
     let answer = served.answer;
-    lines::put_answer(text, header, answer, &distances, &parents, &route)
+    lines::put_answer(text, all, header, answer, &distances, &parents, &route)
 }
 
 // What `host_log` prints for the bytes that it read: the log that the host has of the run.

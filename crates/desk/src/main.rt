@@ -1,4 +1,4 @@
-// The desk's program: a request from standard input, its answer to standard output.
+// The desk's program: a request from standard input, its answer to standard output; with the argument `all`, the lines of unreached yards too.
 // Rests on console.
 use libc::STDIN_FILENO;
 use libc::STDOUT_FILENO;
@@ -8,7 +8,10 @@ fn main() {
     // (console's `cut`).
     let mut bytes = [0u8; 8208];
     let size = io::read_full(STDIN_FILENO, &mut bytes);
+    // One byte more than `all` has: a longer argument comes back empty, as a missing one does, and both count as none.
+    let mut argument = [0u8; 4];
+    let given = os::arg(1, &mut argument);
     let mut text = [0u8; 2894];
-    let length = console::desk_text(&bytes[..size], &mut text);
+    let length = console::desk_text(&argument[..given], &bytes[..size], &mut text);
     io::write_all(STDOUT_FILENO, &text[..length]);
 }

@@ -294,7 +294,7 @@ fn put_run(
     match answer {
         Answer::Ran(report) => {
             let next = put_figures(buffer, h, report, log);
-            let last = lines::put_rows(buffer, next, h.vertices as usize, distances, parents);
+            let last = lines::put_rows(buffer, next, true, h.vertices as usize, distances, parents);
             lines::put_route(buffer, last, h, route)
         }
         Answer::NegativeCycle(report) => put_figures(buffer, h, report, log),

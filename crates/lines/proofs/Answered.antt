@@ -25,9 +25,9 @@ use Rattle.lines.specs.Texts.{routeText, refusalText, toldText, textOf, 
 use Rattle.lines.proofs.Fits as Fits
 use Rattle.lines.proofs.Fits.{log-fits}
 
-pub refused-text : (r : Refusal) → Apart r → (h : Header) (ds ps rs : List ℤ)
-    → refusalText (r .number) (placeShown (placeOf r)) ≡ toldText h (refused r) ds ps rs
-refused-text r a h ds ps rs = simp (a .0, a .1)
+pub refused-text : (r : Refusal) → Apart r → (all : Bool) (h : Header) (ds ps rs : List ℤ)
+    → refusalText (r .number) (placeShown (placeOf r)) ≡ toldText all h (refused r) ds ps rs
+refused-text r a all h ds ps rs = simp (a .0, a .1)
 
 pub refused-log : (r : Refusal) → Apart r → (log : List ℕ)
     → refusalText (r .number) (placeShown (placeOf r)) ≡ toldLog (refused r) log
@@ -64,9 +64,10 @@ module _ (request : List ℕ) (lent : Lent) (a : Answer) (cells : List ℤ) (log
   pub short-log : getD (toldByRun a .values) 1 0 ≤ length log
   short-log = rw (m .answers, m .log-left) (log-fits request lent)
 
-  pub answer-text : (h : Header) → h ≡ headerIn request → toldText h (toldByRun a) ds ps rs ≡ textOf request (outcome request lent)
+  pub answer-text : (all : Bool) (h : Header) → h ≡ headerIn request
+      → toldText all h (toldByRun a) ds ps rs ≡ textOf all request (outcome request lent)
   unfolding textOf
-  answer-text h e = rw (e, m .answers, ← m .results-left distances, ← m .results-left parents, ← m .results-left route)
+  answer-text all h e = rw (e, m .answers, ← m .results-left distances, ← m .results-left parents, ← m .results-left route)
 
   pub log-text : toldLog (toldByRun a) log ≡ logText (outcome request lent)
   unfolding logText

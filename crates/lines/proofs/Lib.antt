@@ -1,3 +1,4 @@
 pub mod Repeated
 pub mod Fits
 pub mod Answered
+pub mod Listed

@@ -1,6 +1,6 @@
 -- The text of a run's outcome, in bytes, as the desk's program prints it (document 01, "The desk's program"), and its log's text.
 -- Rests on the outcomes of runs and text's lines.
-use mathlib.Core.Bool.{cond, _||_}
+use mathlib.Core.Bool.{Bool, cond, not, _&&_, _||_}
 use mathlib.Core.List.{List, [], _∷_, _++_}
 use Prim.Native.Nat.{ℕ, _-_}
 use lib.Dec.{eqb}
@@ -22,7 +22,7 @@ use Rattle.engine.specs.declared.Answer.{Answer}
 use Rattle.engine.specs.declared.Answer.the-variants.{Ran, NegativeCycle, Refused}
 use Rattle.demands.specs.Run.{Outcome}
 
--- ---- `yard distance parent`
+-- ---- `yard distance parent`: with `all` for each yard, otherwise for those that are reached (document 02, ask 6)
 
 -- A dash for unreached, and for no parent.
 abbrev pub distanceText : ℤ → List ℕ
@@ -34,9 +34,17 @@ parentText z = cond (ltZ z (pos 0)) (dash ∷ []) (signed z)
 abbrev pub rowText : (v : ℕ) (distance parent : ℤ) → List ℕ
 rowText v distance parent = lineOf (decimal v ∷ distanceText distance ∷ parentText parent ∷ [])
 
+-- Whether a vertex has no row.
+abbrev pub leftOut : (all : Bool) (distance : ℤ) → Bool
+leftOut all z = not all && eqZ z far
+
+-- The row, if it has one.
+abbrev pub listedText : (all : Bool) (v : ℕ) (distance parent : ℤ) → List ℕ
+listedText all v distance parent = cond (leftOut all distance) [] (rowText v distance parent)
+
 -- For each of the first `count` vertices.
-abbrev pub rowsText : (count : ℕ) (distances parents : List ℤ) → List ℕ
-rowsText count ds ps = flat count (λ v. rowText v (getD ds v (pos 0)) (getD ps v (pos 0)))
+abbrev pub rowsText : (all : Bool) (count : ℕ) (distances parents : List ℤ) → List ℕ
+rowsText all count ds ps = flat count (λ v. listedText all v (getD ds v (pos 0)) (getD ps v (pos 0)))
 
 -- ---- `route` and the edges shown, without padding; in method 5 alone (document 02, ask 5)
 
@@ -57,10 +65,10 @@ routeText h rs = byMethod (h .method) [] ([] ∷ [] ∷ [] ∷ (routeWord ++ (st
 
 -- ---- `method yards lanes source rounds verdict`, then the rows and the route. A run tells its rounds, log length and verdict.
 
-abbrev pub resultsText : Header → (values : List ℕ) (distances parents route : List ℤ) → List ℕ
-resultsText h values ds ps rs =
+abbrev pub resultsText : (all : Bool) → Header → (values : List ℕ) (distances parents route : List ℤ) → List ℕ
+resultsText all h values ds ps rs =
     numbersLine (h .method ∷ h .vertices ∷ h .edges ∷ h .source ∷ getD values 0 0 ∷ getD values 2 0 ∷ [])
-    ++ (rowsText (h .vertices) ds ps ++ routeText h rs)
+    ++ (rowsText all (h .vertices) ds ps ++ routeText h rs)
 
 -- ---- `refused number place`, the place where there is one
 
@@ -83,12 +91,12 @@ Distinct (Ran r) = Unit {0}
 Distinct (NegativeCycle r) = Unit {0}
 Distinct (Refused r) = Apart r
 
-abbrev pub toldText : Header → Told → (distances parents route : List ℤ) → List ℕ
-toldText h t ds ps rs =
-    cond (eqb (t .number) 0) (resultsText h (t .values) ds ps rs) (refusalText (t .number) (placeShown (t .place)))
+abbrev pub toldText : (all : Bool) → Header → Told → (distances parents route : List ℤ) → List ℕ
+toldText all h t ds ps rs =
+    cond (eqb (t .number) 0) (resultsText all h (t .values) ds ps rs) (refusalText (t .number) (placeShown (t .place)))
 
-unfoldable pub textOf : (request : List ℕ) → Outcome → List ℕ
-textOf request o = toldText (headerIn request) (o .answer) (o .results distances) (o .results parents) (o .results route)
+unfoldable pub textOf : (all : Bool) (request : List ℕ) → Outcome → List ℕ
+textOf all request o = toldText all (headerIn request) (o .answer) (o .results distances) (o .results parents) (o .results route)
 
 -- ---- a log, a word a line: of a request that ran, which met no refusal, or 12 alone
 

@@ -9,7 +9,7 @@ ghost use Prim.Native.Nat.{_+_, _*_, _<_, _≤_};
 ghost use lib.ListN.{length, getD};
 ghost use Rattle.text.specs.Text.{Put};
 ghost use Rattle.engine.specs.Answer.{valuesOf, toldByRun};
-ghost use Rattle.lines.specs.Texts.{distanceText, parentText, rowText, rowsText, stepText, stepsText, routeText, resultsText, refusalText, toldText, wordsText, toldLog, Distinct};
+ghost use Rattle.lines.specs.Texts.{distanceText, parentText, listedText, rowsText, stepText, stepsText, routeText, resultsText, refusalText, toldText, wordsText, toldLog, Distinct};
 
 // ---- an answer
 
@@ -33,11 +33,14 @@ fn put_parent(buffer: &mut [u8], at: usize, parent: i64) -> usize
     text::put_signed(buffer, at, parent)
 }
 
-// `yard distance parent`
-fn put_row(buffer: &mut [u8], at: usize, v: u64, distance: i64, parent: i64) -> usize
+// `yard distance parent`; nothing for an unreached vertex, but with `all`.
+fn put_row(buffer: &mut [u8], at: usize, all: bool, v: u64, distance: i64, parent: i64) -> usize
     requires { ⌜ at + 65 ≤ length (now buffer) ⌝ }
-    ensures { λ r. ⌜ Put 65 (rowText v distance parent) (now (buffer .entry)) (now (buffer .exit)) at r ⌝ }
+    ensures { λ r. ⌜ Put 65 (listedText all v distance parent) (now (buffer .entry)) (now (buffer .exit)) at r ⌝ }
 {
+    if !all && distance == plans::FAR {
+        return at;
+    }
     let one = text::put_number(buffer, at, v);
     let two = text::put_byte(buffer, one, b' ');
     let three = put_distance(buffer, two, distance);
@@ -46,21 +49,22 @@ fn put_row(buffer: &mut [u8], at: usize, v: u64, distance: i64, parent: i64) -> 
     text::put_byte(buffer, five, b'\n')
 }
 
-// A row for each of the first `count` vertices.
+// A row for each of the first `count` vertices; with `all` or not.
 pub fn put_rows(
     buffer: &mut [u8],
     at: usize,
+    all: bool,
     count: usize,
     distances: &[i64],
     parents: &[i64],
 ) -> usize
     requires { ⌜ (at + 65 * count ≤ length (now buffer)) × (count ≤ length (now distances)) × (count ≤ length (now parents)) ⌝ }
-    ensures { λ r. ⌜ Put (65 * count) (rowsText count (now (distances .entry)) (now (parents .entry))) (now (buffer .entry)) (now (buffer .exit)) at r ⌝ }
+    ensures { λ r. ⌜ Put (65 * count) (rowsText all count (now (distances .entry)) (now (parents .entry))) (now (buffer .entry)) (now (buffer .exit)) at r ⌝ }
 {
     let mut next = at;
     let mut v: usize = 0;
     while v < count {
-        next = put_row(buffer, next, v as u64, distances[v], parents[v]);
+        next = put_row(buffer, next, all, v as u64, distances[v], parents[v]);
         v += 1;
     }
     next
@@ -108,6 +112,7 @@ pub fn put_route(buffer: &mut [u8], at: usize, h: Header, route: &[i64]) -> usiz
 // `method yards lanes source rounds verdict`, the rows, and the route.
 fn put_results(
     buffer: &mut [u8],
+    all: bool,
     h: Header,
     r: Report,
     distances: &[i64],
@@ -115,11 +120,11 @@ fn put_results(
     route: &[i64],
 ) -> usize
     requires { ⌜ (814 + 65 * h .vertices ≤ length (now buffer)) × (0 < h .vertices) × (h .vertices ≤ 32) × (h .vertices ≤ length (now distances)) × (h .vertices ≤ length (now parents)) × (length (now route) ≡ 31) ⌝ }
-    ensures { λ n. ⌜ Put (814 + 65 * h .vertices) (resultsText h (valuesOf r) (now (distances .entry)) (now (parents .entry)) (now (route .entry))) (now (buffer .entry)) (now (buffer .exit)) 0 n ⌝ }
+    ensures { λ n. ⌜ Put (814 + 65 * h .vertices) (resultsText all h (valuesOf r) (now (distances .entry)) (now (parents .entry)) (now (route .entry))) (now (buffer .entry)) (now (buffer .exit)) 0 n ⌝ }
 {
     let line = [h.method, h.vertices, h.edges, h.source, r.rounds, r.verdict];
     let next = text::put_numbers(buffer, 0, &line);
-    let last = put_rows(buffer, next, h.vertices as usize, distances, parents);
+    let last = put_rows(buffer, next, all, h.vertices as usize, distances, parents);
     put_route(buffer, last, h, route)
 }
 
@@ -138,6 +143,7 @@ fn put_refusal(buffer: &mut [u8], number: u64, place: Place) -> usize
 // What the desk's program prints of an answer. A loss circle is refused too, by 12: it has no results.
 pub fn put_answer(
     buffer: &mut [u8],
+    all: bool,
     h: Header,
     answer: Answer,
     distances: &[i64],
@@ -145,10 +151,10 @@ pub fn put_answer(
     route: &[i64],
 ) -> usize
     requires { ⌜ (2894 ≤ length (now buffer)) × (length (now distances) ≡ 32) × (length (now parents) ≡ 32) × (length (now route) ≡ 31) × (toldByRun answer .number ≡ 0 → (0 < h .vertices) × (h .vertices ≤ 32)) × Distinct answer ⌝ }
-    ensures { λ n. ⌜ Put 2894 (toldText h (toldByRun answer) (now (distances .entry)) (now (parents .entry)) (now (route .entry))) (now (buffer .entry)) (now (buffer .exit)) 0 n ⌝ }
+    ensures { λ n. ⌜ Put 2894 (toldText all h (toldByRun answer) (now (distances .entry)) (now (parents .entry)) (now (route .entry))) (now (buffer .entry)) (now (buffer .exit)) 0 n ⌝ }
 {
     match answer {
-        Answer::Ran(report) => put_results(buffer, h, report, distances, parents, route),
+        Answer::Ran(report) => put_results(buffer, all, h, report, distances, parents, route),
         Answer::NegativeCycle(_) => put_refusal(buffer, 12, Place::Nowhere),
         Answer::Refused(refusal) => put_refusal(buffer, refusal.number, refusal.place_of()),
     }

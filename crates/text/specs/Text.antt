@@ -1,7 +1,7 @@
--- Numbers and lines as text, in bytes of ASCII, and what it means that a text is written to a buffer.
+-- Numbers and lines as text, in bytes of ASCII, whether two texts are the same, and what it means that a text is written to a buffer.
 -- Rests on io's digits.
 use mathlib.Core.Path.{_≡_}
-use mathlib.Core.Bool.{cond}
+use mathlib.Core.Bool.{Bool, true, false, cond, _&&_}
 use mathlib.Core.List.{List, [], _∷_, _++_, map}
 use Prim.Native.Nat.{ℕ, zero, suc, _+_, _/_, _%_, _≤_}
 use lib.Dec.{eqb}
@@ -47,6 +47,13 @@ lineOf (word ∷ words) = word ++ (afterWord (length words) ∷ lineOf words)
 
 abbrev pub numbersLine : (numbers : List ℕ) → List ℕ
 numbersLine numbers = lineOf (map decimal numbers)
+
+-- Whether two texts have the same bytes.
+unfoldable pub sameBytes : (one other : List ℕ) → Bool
+sameBytes [] [] = true
+sameBytes [] (y ∷ ys) = false
+sameBytes (x ∷ xs) [] = false
+sameBytes (x ∷ xs) (y ∷ ys) = eqb x y && sameBytes xs ys
 
 -- `text` is written from place `at` on and ends before place `end`: at most `most` bytes of it, and nothing else is changed.
 pub record Put (most : ℕ) (text before after : List ℕ) (at end : ℕ) : Type 0 where

@@ -1,10 +1,10 @@
-// Text written to a lent buffer, from a place on: each function returns the place after it.
+// Text written to a lent buffer, from a place on: each function that writes returns the place after it. And two texts compared.
 // Rests on fields and io.
 ghost use mathlib.Core.Path.{_≡_};
 ghost use mathlib.Core.List.{[], _∷_};
 ghost use Prim.Native.Nat.{_+_, _*_, _<_, _≤_};
 ghost use lib.ListN.{length};
-ghost use Rattle.text.specs.Text.{decimal, signed, hexadecimal, afterWord, numbersLine, Put};
+ghost use Rattle.text.specs.Text.{decimal, signed, hexadecimal, afterWord, numbersLine, sameBytes, Put};
 
 pub fn put_byte(buffer: &mut [u8], at: usize, byte: u8) -> usize
     requires { ⌜ at < length (now buffer) ⌝ }
@@ -80,4 +80,21 @@ pub fn put_numbers(buffer: &mut [u8], at: usize, numbers: &[u64]) -> usize
         next = put_byte(buffer, next, after_word(numbers.len() - i));
     }
     next
+}
+
+// Whether two texts have the same bytes.
+pub fn same(one: &[u8], other: &[u8]) -> bool
+    ensures { λ r. ⌜ r ≡ sameBytes (now (one .entry)) (now (other .entry)) ⌝ }
+{
+    if one.len() != other.len() {
+        return false;
+    }
+    let mut i: usize = 0;
+    while i < one.len() {
+        if one[i] != other[i] {
+            return false;
+        }
+        i += 1;
+    }
+    true
 }

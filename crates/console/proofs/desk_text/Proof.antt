@@ -24,13 +24,17 @@ put-answer-requires c κs =
 returns : tie.Need-returns
 unfolding deskText
 returns c =
-    let r = c .before .before .before .before .before .before .before .before .before .before .before .run-bytes .ensures in
-    printed (omega arith) (rw (answer-text _ _ _ _ _ _ _ _ (r .1) _ (r .0)) at (c .put-answer .ensures))
+    let b = c .before .before .before .before .before .before .before .before .before .before .before in
+    let r = b .run-bytes .ensures in
+    let same = b .before .before .before .before .before .before .same in
+    printed (omega arith) (rw (answer-text _ _ _ _ _ _ _ _ (r .1) (same .result) _ (r .0), same .ensures) at (c .put-answer .ensures))
 
 pub desk-text-spec : {M : Type 1} → statement M
 desk-text-spec =
     tie.close
     (tie.spec
+    (λ c. search needs)
+    (λ c κs. search needs)
     (λ c. counted {X = ℤ} 1190 (pos 0))
     (λ c. counted {X = ℕ} 8192 0)
     (λ c. counted {X = ℤ} 32 (pos 0))

@@ -39,7 +39,7 @@ returns-3 c =
     let apart = rw (a .answer2 .given .1) at (s .pre .5) in
     rw (
       a .answer2 .given .1,
-      sym (refused-text (a .answer2 .given .0 .0) apart (s .args .h) (s .args .distances .now) (s .args .parents .now) (s .args .route .now)),
+      sym (refused-text (a .answer2 .given .0 .0) apart (s .args .all) (s .args .h) (s .args .distances .now) (s .args .parents .now) (s .args .route .now)),
     )
     (wider (rw (o .place-of .ensures) at (p .put-refusal2 .ensures)) 2894 (omega arith))
 

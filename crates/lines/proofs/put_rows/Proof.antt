@@ -6,17 +6,17 @@ use lib.IntN.{pos}
 use lib.ListN.{getD}
 use Rattle.machine.proofs.Tested.{kept}
 use Rattle.text.specs.Text.{Put}
-use Rattle.lines.specs.Texts.{rowText, rowsText}
+use Rattle.lines.specs.Texts.{listedText, rowsText}
 use Rattle.lines.proofs.Repeated.{start, again}
 use Rattle.lines.proofs.put_rows.Statement.{statement}
 use Rattle.lines.proofs.put_rows.Tie as tie
 
 abbrev Inv-loop : tie.InvT-loop
-Inv-loop buffer₀ at count distances parents next₀ v₀ buffer next v =
-    Put (65 * v) (rowsText v distances parents) buffer₀ buffer at next × (v ≤ count)
+Inv-loop buffer₀ at all count distances parents next₀ v₀ buffer next v =
+    Put (65 * v) (rowsText all v distances parents) buffer₀ buffer at next × (v ≤ count)
 
 abbrev μ-loop : tie.MeasureT-loop
-μ-loop buffer₀ at count distances parents next₀ v₀ buffer next v = count - v
+μ-loop buffer₀ at all count distances parents next₀ v₀ buffer next v = count - v
 
 put-row-requires : tie.Need-put-row-requires Inv-loop μ-loop
 put-row-requires c κs = let p = c .before .before .before .before .loop .inv .0 in omega (arith, p .short, p .long)
@@ -29,7 +29,7 @@ loop-again c =
     let s = l .before .before .args in
     let d = getD (s .distances .now) (l .loop .v) (pos 0) in
     let q = getD (s .parents .now) (l .loop .v) (pos 0) in (
-      again 65 (λ v. rowText v (getD (s .distances .now) v (pos 0)) (getD (s .parents .now) v (pos 0))) (l .loop .inv .0)
+      again 65 (λ v. listedText (s .all) v (getD (s .distances .now) v (pos 0)) (getD (s .parents .now) v (pos 0))) (l .loop .inv .0)
           (rw (kept d (a .before .put-row-arg2 .given), kept q (a .put-row-arg3 .given)) at (p .put-row .ensures)),
       omega arith,
     )

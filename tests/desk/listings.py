@@ -1,0 +1,107 @@
+"""Compares both listings of the desk's program with the model.
+
+Networks of every method are drawn, and each is sent without an argument and
+with `all`.  Which yards a walk leads to is found here once more, by following
+the lanes and without a price: those and no others are listed without an
+argument.  The other listing has the same lines in the same order, and besides
+one for each other yard, which ends in two dashes.  A refusal is the same in
+both.
+
+Then a network with an unreached yard is sent with arguments of every kind.
+"""
+
+import random
+import sys
+from pathlib import Path
+
+sys.path.insert(0, str(Path(__file__).resolve().parents[1] / "model"))
+
+import model
+import network
+from network import Network
+from program import printed, to_bytes
+
+NETWORKS = 600
+MOST_YARDS = 6
+SEED = 6
+
+# The network of README: to yard 2 there is no lane.
+APART = Network(1, 3, 0, [(0, 1, -5)])
+
+# Arguments, the first of which is looked at, and whether they list every yard.
+ARGUMENTS = (((), False), (("",), False), (("", "all"), False),
+             (("all",), True), (("all", "all"), True), (("all", "x"), True),
+             (("x", "all"), False), (("al",), False), (("alll",), False),
+             (("a",), False), (("ALL",), False), (("All",), False),
+             (("all ",), False), ((" all",), False), (("all\n",), False),
+             (("aal",), False), (("lla",), False), (("alk",), False),
+             (("--all",), False), (("allall",), False),
+             (("al\u0142",), False), (("all" * 10_000,), False))
+
+
+def draw(draws):
+    """A network; in about two of three a yard is unreached."""
+    method = draws.choice(list(model.METHODS))
+    n = draws.randint(1, MOST_YARDS)
+    ends = [(draws.randrange(n), draws.randrange(n))
+            for _ in range(draws.randint(0, 2 * n))]
+    if method == 2:
+        lanes = [(*pair, draws.randint(0, 3)) for pair in sorted(set(ends))]
+    else:
+        lanes = [(*pair, draws.randint(-1, 9)) for pair in ends]
+    if method == 3:
+        lanes.sort(key=lambda lane: lane[1])
+    destination = draws.randrange(n) if method == 5 else None
+    return Network(method, n, draws.randrange(n), lanes, destination)
+
+
+def reached(drawn):
+    """The yards that a walk from the source leads to."""
+    found, left = {drawn.source}, [drawn.source]
+    while left:
+        u = left.pop()
+        onward = {target for origin, target, _ in drawn.lanes if origin == u}
+        left += onward - found
+        found |= onward
+    return found
+
+
+def is_right(drawn, listed, all_listed):
+    """Whether the listings are of the yards that they should be of."""
+    if listed[0].startswith("refused"):
+        return listed == all_listed
+    others = [line for line in all_listed if line.endswith(" - -")]
+    yards = [int(line.split()[0]) for line in listed[1:]
+             if not line.startswith("route")]
+    missing = [int(line.split()[0]) for line in others]
+    return (listed == [line for line in all_listed if line not in others]
+            and yards == sorted(reached(drawn))
+            and missing == sorted(set(range(drawn.yards)) - set(yards)))
+
+
+def main(program):
+    draws = random.Random(SEED)
+    some_left_out = 0
+    for _ in range(NETWORKS):
+        drawn = draw(draws)
+        sent = to_bytes(network.request_words(drawn))
+        listings = printed(program, sent), printed(program, sent, "all")
+        told = model.desk_lines(sent), model.desk_lines(sent, "all")
+        if listings != told or not is_right(drawn, *listings):
+            sys.exit(f"desk: {sent.hex()}\n  model:   {told}\n"
+                     f"  program: {listings}")
+        some_left_out += listings[0] != listings[1]
+    if not NETWORKS // 4 < some_left_out < NETWORKS * 3 // 4:
+        sys.exit("desk: too few or too many listings leave a yard out")
+    sent = to_bytes(network.request_words(APART))
+    for arguments, every_yard in ARGUMENTS:
+        lines = printed(program, sent, *arguments)
+        if lines[3:] != ["2 - -"] * every_yard:
+            sys.exit(f"desk: arguments {arguments}\n  program: {lines}")
+    print(f"desk: both listings of {NETWORKS} networks agree, "
+          f"{some_left_out} with yards left out; "
+          f"{len(ARGUMENTS)} arguments are taken as they should be")
+
+
+if __name__ == "__main__":
+    main(*sys.argv[1:])
