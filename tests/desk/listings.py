@@ -7,7 +7,7 @@ argument.  The other listing has the same lines in the same order, and besides
 one for each other yard, which ends in two dashes.  A refusal is the same in
 both.
 
-Then a network with an unreached yard is sent with arguments of every kind.
+Then the printed case of an unreached yard is sent with arguments of every kind.
 """
 
 import random
@@ -25,8 +25,10 @@ NETWORKS = 600
 MOST_YARDS = 6
 SEED = 6
 
-# The network of README: to yard 2 there is no lane.
+# The printed case of an unreached yard: to yard 2 there is no lane.
 APART = Network(1, 3, 0, [(0, 1, -5)])
+APART_LISTED = ["1 3 1 0 46 0", "0 0 -", "1 -5 0"]
+APART_UNREACHED = ["2 - -"]
 
 # Arguments, the first of which is looked at, and whether they list every yard.
 ARGUMENTS = (((), False), (("",), False), (("", "all"), False),
@@ -96,7 +98,7 @@ def main(program):
     sent = to_bytes(network.request_words(APART))
     for arguments, every_yard in ARGUMENTS:
         lines = printed(program, sent, *arguments)
-        if lines[3:] != ["2 - -"] * every_yard:
+        if lines != APART_LISTED + APART_UNREACHED * every_yard:
             sys.exit(f"desk: arguments {arguments}\n  program: {lines}")
     print(f"desk: both listings of {NETWORKS} networks agree, "
           f"{some_left_out} with yards left out; "

@@ -8,7 +8,7 @@ use lib.Arith.{digits-lt}
 use lib.ListN.{getD}
 use lib.Pow.{pow-add, pow-mono}
 use Rattle.fields.specs.Fields.{joinOf}
-use Rattle.console.specs.Bytes.{joinedFrom}
+use Rattle.printing.specs.Bytes.{joinedFrom}
 
 -- A join of k bits and w bits has k + w bits.
 join-below : (hi lo k w : ℕ) → hi < 2 ^ k → lo < 2 ^ w → joinOf hi lo w < 2 ^ (k + w)

@@ -9,7 +9,7 @@ use lib.ListN.{length}
 use lib.Seq.{length-take-le}
 use Rattle.text.specs.Text.{Put}
 use Rattle.answers.proofs.Filled.{from-start}
-use Rattle.console.specs.Desk.{Printed}
+use Rattle.console.specs.Printed.{Printed}
 
 pub printed : {m n : ℕ} {t before after : List ℕ} → m ≤ length before → Put m t before after 0 n → Printed t before after n
 printed {m} {n} {t} {before} {after} h p =

@@ -10,8 +10,9 @@ ghost use Rattle.limits.specs.WithinLimits.{headerIn};
 ghost use Rattle.plans.specs.Plan.{byKind};
 ghost use Rattle.demands.specs.Run.{outcome};
 ghost use Rattle.engine.specs.Answer.{Met};
-ghost use Rattle.console.specs.Bytes.{joinedFrom, wholeCount, wholeWords, handedOver, requestOf};
-ghost use Rattle.console.specs.Desk.{deskText, hostText, Printed};
+ghost use Rattle.printing.specs.Bytes.{joinedFrom, wholeCount, wholeWords, handedOver, requestOf};
+ghost use Rattle.printing.specs.Desk.{deskText, hostText};
+ghost use Rattle.console.specs.Printed.{Printed};
 
 // A request's answer, and its header.
 struct Served {

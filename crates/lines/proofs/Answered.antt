@@ -21,7 +21,8 @@ use Rattle.engine.specs.declared.Answer.the-variants.{Ran, NegativeCycle, Refus
 use Rattle.demands.specs.Run.{Lent, refusalOf, verdictOfRun, outcomeBy, outcome}
 use Rattle.engine.specs.Answer.{toldByRun, Met}
 use Rattle.demands.proofs.Refused.{ran-values}
-use Rattle.lines.specs.Texts.{routeText, refusalText, toldText, textOf, toldLog, logText, Distinct}
+use Rattle.printing.specs.Texts.{routeText, refusalText, toldText, textOf, toldLog, logText}
+use Rattle.lines.specs.Distinct.{Distinct}
 use Rattle.lines.proofs.Fits as Fits
 use Rattle.lines.proofs.Fits.{log-fits}
 

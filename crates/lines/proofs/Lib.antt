@@ -1,4 +1,4 @@
 pub mod Repeated
 pub mod Fits
 pub mod Answered
-pub mod Listed
+pub mod LeftOut

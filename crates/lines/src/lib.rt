@@ -9,7 +9,8 @@ ghost use Prim.Native.Nat.{_+_, _*_, _<_, _≤_};
 ghost use lib.ListN.{length, getD};
 ghost use Rattle.text.specs.Text.{Put};
 ghost use Rattle.engine.specs.Answer.{valuesOf, toldByRun};
-ghost use Rattle.lines.specs.Texts.{distanceText, parentText, listedText, rowsText, stepText, stepsText, routeText, resultsText, refusalText, toldText, wordsText, toldLog, Distinct};
+ghost use Rattle.lines.specs.Distinct.{Distinct};
+ghost use Rattle.printing.specs.Texts.{distanceText, parentText, listedText, rowsText, stepText, stepsText, routeText, resultsText, refusalText, toldText, wordsText, toldLog};
 
 // ---- an answer
 

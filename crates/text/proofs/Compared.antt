@@ -2,7 +2,7 @@
 -- Rests on Lines.
 use mathlib.Core.Path.{_≡_, refl, sym, ap, _∙_}
 use mathlib.Core.Logic.{_↔_, _≢_}
-use mathlib.Core.Bool.{Bool, true, false, _&&_, true≢false}
+use mathlib.Core.Bool.{true, false, _&&_, true≢false, and-eq-true-iff, not-eq-not}
 use mathlib.Core.List.{List, [], _∷_}
 use Prim.Native.Nat.{ℕ, _+_, _<_, _≤_}
 use borrow.Author.Tests.{eq-eqb, eqb-true}
@@ -18,28 +18,20 @@ unfolding sameBytes
 itself [] = refl
 itself (x ∷ xs) = rw (eq-eqb x x refl) (itself xs)
 
-both : (a b : Bool) → (a && b) ≡ true → (a ≡ true) × (b ≡ true)
-both true b e = (refl, e)
-both false b e = absurd (true≢false (sym e))
-
 equal : (xs ys : List ℕ) → sameBytes xs ys ≡ true → xs ≡ ys
 unfolding sameBytes
 equal [] [] e = refl
 equal [] (y ∷ ys) e = absurd (true≢false (sym e))
 equal (x ∷ xs) [] e = absurd (true≢false (sym e))
 equal (x ∷ xs) (y ∷ ys) e =
-    let (head, tail) = both (eqb x y) (sameBytes xs ys) e in
+    let (head, tail) = and-eq-true-iff (eqb x y) (sameBytes xs ys) .0 e in
     rw (eqb-true x y head, equal xs ys tail)
 
 pub same-bytes : (xs ys : List ℕ) → (sameBytes xs ys ≡ true) ↔ (xs ≡ ys)
 same-bytes xs ys = (equal xs ys, λ e. rw e (itself ys))
 
 pub different : (xs ys : List ℕ) → xs ≢ ys → false ≡ sameBytes xs ys
-different xs ys n = by (sameBytes xs ys) (λ e. n (equal xs ys e))
-  where
-    by : (b : Bool) → b ≢ true → false ≡ b
-    by true not-true = absurd (not-true refl)
-    by false not-true = refl
+different xs ys n = sym (not-eq-not {a = sameBytes xs ys} {b = false} .0 (λ e. n (equal xs ys e)))
 
 -- ---- the loop: before byte k, the bytes from k on settle the whole
 

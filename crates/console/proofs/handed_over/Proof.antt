@@ -2,7 +2,7 @@
 use mathlib.Core.Path.{_∙_}
 use native.Mathlib.Omega.{arith}
 use borrow.Author.Needs.{needs}
-use Rattle.console.proofs.Handed.{none-handed, whole-handed, broken-handed}
+use Rattle.printing.proofs.Handed.{none-handed, whole-handed, broken-handed}
 use Rattle.console.proofs.handed_over.Statement.{statement}
 use Rattle.console.proofs.handed_over.Tie as tie
 

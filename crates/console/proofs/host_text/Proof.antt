@@ -3,7 +3,7 @@ use borrow.Author.Needs.{needs}
 use Prim.Native.Nat.{ℕ}
 use native.Mathlib.Omega.{arith}
 use lib.IntN.{ℤ, pos}
-use Rattle.console.specs.Desk.{hostText}
+use Rattle.printing.specs.Desk.{hostText}
 use Rattle.text.proofs.Arrays.{counted}
 use Rattle.lines.proofs.Answered.{distinct, short-log, log-text}
 use Rattle.console.proofs.Whole.{printed}

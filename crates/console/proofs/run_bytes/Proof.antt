@@ -8,8 +8,8 @@ use lib.ListN.{length, getD}
 use Rattle.text.proofs.Arrays.{counted}
 use Rattle.plans.specs.Plan.{headerOf}
 use lib.Seq.{length-take-le}
-use Rattle.console.specs.Bytes.{wholeWords, requestOf}
-use Rattle.console.proofs.Handed.{handed-most, whole-length, padded-length, first-word}
+use Rattle.printing.specs.Bytes.{wholeWords, requestOf}
+use Rattle.printing.proofs.Handed.{handed-most, whole-length, padded-length, first-word}
 use Rattle.console.proofs.run_bytes.Statement.{statement}
 use Rattle.console.proofs.run_bytes.Tie as tie
 

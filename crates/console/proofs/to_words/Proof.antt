@@ -5,8 +5,8 @@ use mathlib.Core.Path.{sym, _∙_}
 use Prim.Native.Nat.{_-_}
 use native.Mathlib.Omega.{arith}
 use Rattle.answers.proofs.Filled.{Filling, start, again, done}
-use Rattle.console.specs.Bytes.{wholeWords}
-use Rattle.console.proofs.Handed.{whole-length, whole-at}
+use Rattle.printing.specs.Bytes.{wholeWords}
+use Rattle.printing.proofs.Handed.{whole-length, whole-at}
 use Rattle.console.proofs.to_words.Statement.{statement}
 use Rattle.console.proofs.to_words.Tie as tie
 

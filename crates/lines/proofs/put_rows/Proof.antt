@@ -6,7 +6,7 @@ use lib.IntN.{pos}
 use lib.ListN.{getD}
 use Rattle.machine.proofs.Tested.{kept}
 use Rattle.text.specs.Text.{Put}
-use Rattle.lines.specs.Texts.{listedText, rowsText}
+use Rattle.printing.specs.Texts.{listedText, rowsText}
 use Rattle.lines.proofs.Repeated.{start, again}
 use Rattle.lines.proofs.put_rows.Statement.{statement}
 use Rattle.lines.proofs.put_rows.Tie as tie

@@ -6,7 +6,7 @@ use native.Mathlib.Omega.{arith}
 use lib.ListN.{getD}
 use Rattle.text.specs.Text.{hexadecimal, lineOf, Put}
 use Rattle.text.proofs.Written.{then}
-use Rattle.lines.specs.Texts.{wordsText}
+use Rattle.printing.specs.Texts.{wordsText}
 use Rattle.lines.proofs.Repeated.{start, again}
 use Rattle.lines.proofs.put_words.Statement.{statement}
 use Rattle.lines.proofs.put_words.Tie as tie

@@ -16,9 +16,9 @@ use Rattle.plans.specs.Blocks.{flat}
 use Rattle.headers.specs.Refusal.{headerRefusal}
 use Rattle.limits.specs.declared.Lengths.{Lengths}
 use Rattle.limits.specs.Refusal.{requestRefusal}
-use Rattle.console.specs.Bytes.{wordAt, tooMany, wholeCount, wholeWords, handedOver, requestOf}
-use Rattle.console.proofs.Handed.{none-handed, whole-handed, whole-length}
-use Rattle.console.proofs.Padded.{too-many, padded-count, first, cut-longer}
+use Rattle.printing.specs.Bytes.{wordAt, tooMany, wholeCount, wholeWords, handedOver, requestOf}
+use Rattle.printing.proofs.Handed.{none-handed, whole-handed, whole-length}
+use Rattle.printing.proofs.Padded.{too-many, padded-count, first, cut-longer}
 
 -- Under eight bytes there is no request: refusal 1.
 pub missing : (bytes : List ℕ) → length bytes < 8 → requestOf bytes ≡ []

@@ -23,8 +23,8 @@ use Rattle.headers.specs.Refusal.{headerRefusal}
 use Rattle.headers.proofs.Headers.{accepted}
 use Rattle.limits.specs.declared.Lengths.{Lengths}
 use Rattle.limits.specs.Refusal.{sizesRefusal, requestRefusal}
-use Rattle.console.specs.Bytes.{joinedFrom, wordAt, tooMany, wholeCount, wholeWords, handedOver, requestOf}
-use Rattle.console.proofs.Handed.{whole-handed, broken-handed, whole-length, whole-at, padded-length, first-word}
+use Rattle.printing.specs.Bytes.{joinedFrom, wordAt, tooMany, wholeCount, wholeWords, handedOver, requestOf}
+use Rattle.printing.proofs.Handed.{whole-handed, broken-handed, whole-length, whole-at, padded-length, first-word}
 
 -- ---- too many words
 

@@ -11,15 +11,13 @@ use Rattle.text.specs.Text.{blank, dash, newline, decimal, signed, hexadecimal,
 use Rattle.answers.specs.declared.Place.{Place}
 use Rattle.answers.specs.declared.Place.the-variants.{At, Nowhere}
 use Rattle.answers.specs.Refusal.{placeShown}
-use Rattle.answers.specs.Told.{Told, Apart}
+use Rattle.answers.specs.Told.{Told}
 use Rattle.machine.specs.Effect.{eqZ}
 use Rattle.plans.specs.Blocks.{flat}
 use Rattle.plans.specs.Limits.{far, byMethod}
 use Rattle.plans.specs.declared.Header.{Header}
 use Rattle.plans.specs.Plan.{distances, parents, route}
 use Rattle.limits.specs.WithinLimits.{headerIn}
-use Rattle.engine.specs.declared.Answer.{Answer}
-use Rattle.engine.specs.declared.Answer.the-variants.{Ran, NegativeCycle, Refused}
 use Rattle.demands.specs.Run.{Outcome}
 
 -- ---- `yard distance parent`: with `all` for each yard, otherwise for those that are reached (document 02, ask 6)
@@ -84,12 +82,6 @@ abbrev pub refusalText : (number : ℕ) → Place → List ℕ
 refusalText number place = refusedWord ++ numbersLine (number ∷ placeIfAny place)
 
 -- ---- an answer
-
--- A refusal is told from a run by its number.
-abbrev pub Distinct : Answer → Type 0
-Distinct (Ran r) = Unit {0}
-Distinct (NegativeCycle r) = Unit {0}
-Distinct (Refused r) = Apart r
 
 abbrev pub toldText : (all : Bool) → Header → Told → (distances parents route : List ℤ) → List ℕ
 toldText all h t ds ps rs =

@@ -1,10 +1,10 @@
--- Bytes read and text printed, by computing: document 01's printed request, both listings, arguments, refusals, every method, and a log.
+-- By computing, bytes read and text printed: document 01's printed request, both listings, arguments, refusals, every method, a log; and what is lent.
 -- Rests on the definitions alone.
 use mathlib.Core.Path.{_≡_, refl}
 use mathlib.Core.Bool.{true, false}
 use mathlib.Core.List.{[], _∷_}
 use Prim.Native.Nat.{_*_}
-use lib.ListN.{take, drop}
+use lib.ListN.{length, take, drop}
 use Rattle.fields.specs.Fields.{signedOf, bitsOf}
 use Rattle.text.specs.Text.{sameBytes, leading, decimal, signed, hexadecimal, lineOf}
 use Rattle.machine.specs.Effect.{bit, wrapAdd, both, pick, perform}
@@ -23,9 +23,9 @@ use Rattle.limits.specs.Word.{weightOf}
 use Rattle.limits.specs.Refusal.{logLengthOf, sizesRefusal, inRange, edgeRefusal, sortedRefusal, entryRefusal, wordRefusal, wordsRefusal, lastRefusal, requestRefusal}
 use Rattle.intake.specs.Intake.{stripsOf, sourceOf, laid, copied, startingCells}
 use Rattle.demands.specs.Run.{verdictOf, outcome}
-use Rattle.lines.specs.Texts.{textOf, logText}
-use Rattle.console.specs.Bytes.{joinedFrom, wholeWords, handedOver, requestOf}
-use Rattle.console.specs.Desk.{asksAll, deskText, hostText}
+use Rattle.printing.specs.Texts.{textOf, logText}
+use Rattle.printing.specs.Bytes.{joinedFrom, wholeWords, handedOver, requestOf}
+use Rattle.printing.specs.Desk.{deskLent, asksAll, deskText, hostText}
 
 pub record Example : Type 0 where
   -- Document 01's printed request: three lines. `1 2 1 0 31 0`, `0 0 -`, `1 -5 0`
@@ -82,6 +82,9 @@ pub record Example : Type 0 where
       ≡ 49 ∷ 48 ∷ 48 ∷ 48 ∷ 48 ∷ 50 ∷ 48 ∷ 48 ∷ 48 ∷ 48 ∷ 49 ∷ 48 ∷ 48 ∷ 48 ∷ 48 ∷ 48 ∷ 10 ∷ []
   pub log-last : drop (17 * 47) (hostText (0x10 ∷ 0 ∷ 2 ∷ 0 ∷ 0 ∷ 0x10 ∷ 0 ∷ 0 ∷ 0 ∷ 1 ∷ 0 ∷ 0 ∷ 0xFF ∷ 0xFF ∷ 0xFF ∷ 0xFB ∷ []))
       ≡ 48 ∷ 48 ∷ 48 ∷ 48 ∷ 48 ∷ 48 ∷ 48 ∷ 48 ∷ 48 ∷ 48 ∷ 48 ∷ 48 ∷ 48 ∷ 48 ∷ 48 ∷ 48 ∷ 10 ∷ []
+  -- "Its log holds 8,192 words and its bank 1,190 cells."
+  pub log-lent : length (deskLent .log) ≡ 8192
+  pub cells-lent : length (deskLent .cells) ≡ 1190
   -- The largest word, `18446744073709551615`, and `fedcba9876543210`.
   pub largest : decimal 0xFFFFFFFFFFFFFFFF ≡ 49 ∷ 56 ∷ 52 ∷ 52 ∷ 54 ∷ 55 ∷ 52 ∷ 52 ∷ 48 ∷ 55 ∷ 51 ∷ 55 ∷ 48 ∷ 57 ∷ 53 ∷ 53 ∷ 49 ∷ 54 ∷ 49 ∷ 53 ∷ []
   pub digits : hexadecimal 0xFEDCBA9876543210 ≡ 102 ∷ 101 ∷ 100 ∷ 99 ∷ 98 ∷ 97 ∷ 57 ∷ 56 ∷ 55 ∷ 54 ∷ 53 ∷ 52 ∷ 51 ∷ 50 ∷ 49 ∷ 48 ∷ []
@@ -111,6 +114,8 @@ example =
       loss-circle = refl;
       log-first = refl;
       log-last = refl;
+      log-lent = refl;
+      cells-lent = refl;
       largest = refl;
       digits = refl;
     }

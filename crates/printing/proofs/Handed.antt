@@ -14,7 +14,7 @@ use borrow.Author.Tests.{lt-ltb, le-ltb, eq-eqb, ne-eqb}
 use Rattle.text.proofs.Arrays.{counted}
 use Rattle.answers.specs.Buffers.{overwritten}
 use Rattle.plans.proofs.Blocks.{ones-length, ones-at}
-use Rattle.console.specs.Bytes.{wordAt, tooMany, wholeCount, wholeWords, handedOver, requestOf}
+use Rattle.printing.specs.Bytes.{wordAt, tooMany, wholeCount, wholeWords, handedOver, requestOf}
 
 -- ---- how many, by the tests
 

@@ -1,0 +1,4 @@
+pub mod Texts
+pub mod Bytes
+pub mod Desk
+pub mod Listings
