@@ -2,4 +2,3 @@ pub mod Facts
 pub mod Unmet
 pub mod Meets
 pub mod Told
-pub mod Filled

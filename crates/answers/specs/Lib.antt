@@ -1,4 +1,3 @@
 pub mod Refusal
 pub mod Told
-pub mod Buffers
 pub mod Facts

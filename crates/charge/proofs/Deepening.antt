@@ -1,16 +1,15 @@
 -- Words whose depths are found one by one, wherever the cells' depths are kept: what holds before word k, and that the greatest of all is found.
--- Rests on Words.
+-- Rests on Words and lists' Slices.
 use mathlib.Core.Path.{_≡_, sym, ap, _∙_}
 use mathlib.Core.Bool.{Bool, cond}
-use mathlib.Core.List.{List, _∷_}
+use mathlib.Core.List.{List}
 use mathlib.Core.Option.{Option, none, some}
 use Prim.Native.Nat.{ℕ, _+_, _*_, _^_, _<_, _≤_, max}
 use native.Mathlib.Nat.{max-zero, zero-max}
-use native.Mathlib.Numerals.{add-one}
 use native.Mathlib.Omega.{arith}
 use lib.Dec.{T, eqb}
 use lib.ListN.{length, getD, drop, drop-of-length-le}
-use lib.Seq.{drop-cons}
+use Rattle.lists.proofs.Slices as Slices
 use Rattle.machine.specs.Instruction.{Instruction, SET, COPY, ADD, LESS, EQUAL, BOTH, MOVEIF, OPEN}
 use Rattle.machine.specs.Word.{decode, admissible}
 use Rattle.machine.specs.Log.{Admitted}
@@ -18,9 +17,6 @@ use Rattle.machine.specs.Depth.{depth, taken, target, greatestFrom, decodeAll, 
 use Rattle.machine.proofs.Every.{all-at}
 use Rattle.charge.specs.Word.{depthBy, deepenedBy, Deepens, NoDeeper}
 use Rattle.charge.proofs.Words.{greatest-first}
-
-pub off : (words : List ℕ) (k : ℕ) → k < length words → drop k words ≡ getD words k 0 ∷ drop (k + 1) words
-off words k h = rw (add-one, drop-cons words k 0)
 
 pub can : (count : ℕ) (words : List ℕ) → Admitted count words → (k : ℕ) → k < length words → T (admissible count (getD words k 0))
 can count words a k h = all-at (λ w. T (admissible count w)) words k 0 a h
@@ -81,7 +77,7 @@ pub next : {words : List ℕ} {at at′ : ℕ → ℕ} {rounds k : ℕ} → Deep
 next {words} {at} {at′} {rounds} {k} t h x d =
     let w = getD words k 0 in
     let left : at′ ≡ deepenedBy (decode w) at = λ i a. d .leaves a i in
-    let whole = ap (λ (ws : List ℕ). greatestFrom eqb (decodeAll ws) at) (off words k h) ∙ greatest-first at w (drop (k + 1) words) in
+    let whole = ap (λ (ws : List ℕ). greatestFrom eqb (decodeAll ws) at) (Slices.next words k 0 h) ∙ greatest-first at w (drop (k + 1) words) in
     let l = by-most rounds at (t .low) (decode w) in
     record {
       rest = rw left (omega (arith, t .rest, whole, d .deep));

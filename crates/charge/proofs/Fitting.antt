@@ -1,5 +1,5 @@
--- Words that keep to the first cells; and a table of depths that are all 0. Rests on Deepening.
-use mathlib.Core.Path.{_≡_, refl, sym}
+-- Words that keep to the first cells; and a table of depths that are all 0. Rests on lists' Slices.
+use mathlib.Core.Path.{_≡_, refl}
 use mathlib.Core.Bool.{true, false}
 use mathlib.Core.List.{List, [], _∷_}
 use mathlib.Core.Option.{Option, none, some}
@@ -9,12 +9,12 @@ use native.Mathlib.Omega.{arith}
 use lib.Dec.{T, ltb, ltb→lt, lt→ltb}
 use lib.ListN.{length, getD, drop, drop-of-length-le, replicate, length-replicate}
 use mir.Facts.{and-yes, yes-and}
+use Rattle.lists.proofs.Slices.{next}
 use Rattle.machine.specs.Instruction.{Instruction, addresses}
 use Rattle.machine.specs.Word.{opField, dField, bField, decode, zerosKept, allBelow, present, admissibleAt, admissible}
 use Rattle.machine.specs.Log.{Admitted}
 use Rattle.charge.specs.Word.{NoDeeper}
 use Rattle.charge.specs.Table.{depthsIn, enough}
-use Rattle.charge.proofs.Deepening.{off}
 
 -- ---- whether they keep to them
 
@@ -45,21 +45,17 @@ wider few many l (w ∷ ws) a =
 module _ (words : List ℕ) (count k : ℕ) where
   pub enough-next : k < length words → admissible count (getD words k 0) ≡ true → enough count (drop k words) ≡ enough count (drop (k + 1) words)
   unfolding enough
-  enough-next h e = rw (off words k h, e)
+  enough-next h e = rw (next words k 0 h, e)
 
   pub enough-not : k < length words → admissible count (getD words k 0) ≡ false → enough count (drop k words) ≡ false
   unfolding enough
-  enough-not h e = rw (off words k h, e)
+  enough-not h e = rw (next words k 0 h, e)
 
   pub enough-end : length words ≤ k → enough count (drop k words) ≡ true
   unfolding enough
   enough-end h = rw (drop-of-length-le words h)
 
 -- ---- a fresh table
-
--- Stated over variables: computed, a long table would be built element by element.
-pub counted : (n v : ℕ) → n ≡ length (replicate n v)
-counted n v = sym (length-replicate n v)
 
 zeros : (n a : ℕ) → depthsIn (replicate n 0) a ≡ 0
 zeros zero a = refl

@@ -12,10 +12,10 @@ use lib.ListN.{length, getD, set, drop, length-set}
 use lib.Seq.{getD-set-same, getD-set-other, drop-set-lt}
 use lib.Signed.{mag}
 use borrow.Author.Tests.{lt-ltb, le-ltb, ltb-true, ltb-false, eq-eqb, ne-eqb, eqb-true, eqb-false}
+use Rattle.lists.proofs.Test.{by-test}
+use Rattle.lists.proofs.Sets.{set-at, set-back}
 use Rattle.fields.specs.Fields.{fieldOf, joinOf, signedOf, bitsOf}
 use Rattle.fields.proofs.Joined.{field-low, field-up, field-all}
-use Rattle.fields.proofs.Sets.{set-at, set-back}
-use Rattle.fields.proofs.Test.{by-test}
 use Rattle.fields.proofs.Twos.{bits-signed, signed-bits}
 use Rattle.machine.specs.Effect.{cellAt}
 use Rattle.machine.specs.Word.{FieldsAre, opField, dField, decodeAt}

@@ -8,7 +8,7 @@ use Prim.Native.Nat.{ℕ, _<_, _≤_, max}
 use native.Mathlib.Omega.{arith}
 use lib.Dec.{T, eqb}
 use lib.ListN.{getD}
-use Rattle.fields.proofs.Test.{by-test}
+use Rattle.lists.proofs.Test.{by-test}
 use Rattle.machine.specs.Instruction.{Instruction}
 use borrow.Author.Tests.{eqb-true, eqb-false}
 use Rattle.machine.specs.Word.{FieldsAre, decodeAt, decode, admissibleAt}

@@ -1,5 +1,5 @@
 -- A text put at place 0 stands whole at the buffer's start.
--- Rests on answers' Filled.
+-- Rests on lists' Filled.
 use mathlib.Core.Path.{_≡_, sym, _∙_}
 use mathlib.Core.List.{List}
 use Prim.Native.Nat.{ℕ, _≤_}
@@ -7,8 +7,8 @@ use native.Mathlib.Nat.{zero-add}
 use native.Mathlib.Omega.{arith}
 use lib.ListN.{length}
 use lib.Seq.{length-take-le}
+use Rattle.lists.proofs.Filled.{from-start}
 use Rattle.text.specs.Text.{Put}
-use Rattle.answers.proofs.Filled.{from-start}
 use Rattle.console.specs.Printed.{Printed}
 
 pub printed : {m n : ℕ} {t before after : List ℕ} → m ≤ length before → Put m t before after 0 n → Printed t before after n

@@ -5,7 +5,7 @@ use plans::Header;
 ghost use mathlib.Core.Path.{_≡_};
 ghost use Prim.Native.Nat.{_+_, _≤_};
 ghost use lib.ListN.{length};
-ghost use Rattle.answers.specs.Buffers.{overwritten};
+ghost use Rattle.lists.specs.Buffers.{overwritten};
 ghost use Rattle.limits.specs.WithinLimits.{headerIn};
 ghost use Rattle.plans.specs.Plan.{byKind};
 ghost use Rattle.demands.specs.Run.{outcome};

@@ -8,14 +8,14 @@ use Prim.Native.Nat.{ℕ}
 use lib.IntN.{ℤ}
 use lib.ListN.{length, getD}
 use lib.Seq.{take-append-seam}
+use Rattle.lists.specs.Buffers.{overwritten}
+use Rattle.lists.proofs.Test.{by-test}
 use Rattle.machine.specs.Effect.{isZero, cellAt}
 use Rattle.machine.specs.Depth.{chargeOf}
 use Rattle.plans.specs.declared.Header.{Header}
 use Rattle.plans.specs.Plan.{Accepted, planOf, verdictCell, published}
-use Rattle.answers.specs.Buffers.{overwritten}
 use Rattle.limits.specs.Refusal.{logLengthOf}
 use Rattle.limits.specs.WithinLimits.{headerIn, wordsIn, WithinLimits}
-use Rattle.graph.proofs.Test.{by-test}
 use Rattle.limits.proofs.WithinLimits.{accepted-in, within}
 use Rattle.demands.specs.Run.{Lent, lengthsOf, Outcome, startOf, logOfRun, cellsLeft, verdictAt, verdictOf, verdictOfRun, ranBy, outcome}
 use Rattle.demands.specs.Demands.{RanOn, roundsTold, lengthTold, verdictTold, logTold}

@@ -5,9 +5,9 @@ use mathlib.Core.Option.{Option, none, some}
 use Prim.Native.Nat.{ℕ, zero, suc, _+_, _<_}
 use lib.IntN.{ℤ}
 use lib.ListN.{length, drop}
+use Rattle.lists.specs.Buffers.{overwritten}
 use Rattle.answers.specs.declared.Refusal.{Refusal}
 use Rattle.answers.specs.Told.{Told, refused}
-use Rattle.answers.specs.Buffers.{overwritten}
 use Rattle.fields.specs.Fields.{bitsOf}
 use Rattle.machine.specs.Effect.{isZero, cellAt}
 use Rattle.machine.specs.Log.{cellsAfter, logOf}

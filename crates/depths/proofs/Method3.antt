@@ -8,10 +8,10 @@ use native.Mathlib.Omega.{arith}
 use borrow.Author.Tests.{ne-eqb, eqb-true, eqb-false}
 use lib.Dec.{eqb}
 use lib.IntN.{ℤ}
+use Rattle.lists.proofs.Test.{by-test}
 use Rattle.machine.specs.Depth.{greatest}
 use Rattle.plans.specs.Outline.{middle, vertices, edges, fixed, opens, Outline, end, line, run, each, _▸_, counted-to, start, instructions}
 use Rattle.plans.specs.Method3.{from, B, weight, D, P, Y, N, Q, X, S, F, T, prepare, bid, sweep, probe, take, test, plan}
-use Rattle.graph.proofs.Test.{by-test}
 use Rattle.methods.proofs.Steps.{Claim, Runs, loop}
 use Rattle.depths.proofs.Depths.{Depths, fresh, depths, named, greatest-is}
 use Rattle.methods.proofs.Names.{Name, same, pair}

@@ -8,10 +8,10 @@ use native.Mathlib.Omega.{arith}
 use borrow.Author.Tests.{ne-eqb}
 use lib.Dec.{eqb}
 use lib.IntN.{ℤ}
+use Rattle.lists.proofs.Test.{by-test}
 use Rattle.machine.specs.Depth.{greatest}
 use Rattle.plans.specs.Outline.{middle, Outline, counted-to, start, instructions}
 use Rattle.plans.specs.Method5.{X, Z, B, R, trace, follow, show, plan}
-use Rattle.graph.proofs.Test.{by-test}
 use Rattle.methods.proofs.Steps.{Claim, Runs, loop}
 use Rattle.methods.proofs.Names.{same, pair}
 use Rattle.methods.proofs.Filled.{fill-none, fill, Refilled, refill-none, refill}

@@ -8,6 +8,9 @@ use native.Mathlib.Omega.{arith}
 use lib.IntN.{ℤ}
 use lib.ListN.{length, take, drop, length-append, length-drop}
 use lib.Seq.{sets, take-append-seam, length-take-le}
+use Rattle.lists.specs.Buffers.{overwritten}
+use Rattle.lists.proofs.Sets.{sets-append}
+use Rattle.lists.proofs.Filled.{from-start}
 use Rattle.machine.specs.Log.{Admitted, cellsAfter, logOf}
 use Rattle.machine.proofs.Carried.{length-after}
 use Rattle.plans.specs.declared.Header.{Header}
@@ -15,10 +18,7 @@ use Rattle.plans.specs.Plan.{planOf, lengthOf, verdictCell, published, roundsOf
 use Rattle.plans.proofs.Addresses.{admitted-plan}
 use Rattle.plans.proofs.Figures.{length-plan}
 use Rattle.depths.proofs.Rounds.{rounds-log}
-use Rattle.answers.proofs.Filled.{from-start}
-use Rattle.answers.specs.Buffers.{overwritten}
 use Rattle.limits.specs.Refusal.{logLengthOf}
-use Rattle.fields.proofs.Sets.{sets-append}
 use Rattle.demands.specs.Run.{openedAt, There}
 use Rattle.engine.specs.Carry.{Ready, Carried}
 use Rattle.engine.proofs.Placed.{verdict-below}

@@ -5,7 +5,7 @@ use mathlib.Core.List.{List}
 use Prim.Native.Nat.{ℕ, _≤_}
 use lib.IntN.{ℤ}
 use lib.ListN.{length, drop}
-use Rattle.answers.specs.Buffers.{overwritten}
+use Rattle.lists.specs.Buffers.{overwritten}
 use Rattle.machine.specs.Log.{cellsAfter, logOf}
 use Rattle.machine.specs.Depth.{chargeOf}
 use Rattle.plans.specs.declared.Header.{Header}

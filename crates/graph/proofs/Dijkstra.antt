@@ -11,10 +11,10 @@ use borrow.Author.Tests.{ltb-true, ltb-false, eqb-true, le-ltb, eq-eqb, ne-eqb}
 use lib.Dec.{ltb, eqb}
 use lib.IntN.{ℤ, pos, negsuc}
 use lib.Signed.{_≤ℤ_}
+use Rattle.lists.proofs.Test.{by-test, and-both, and-not}
 use Rattle.graph.specs.Walk.{Edge, Chain, total, NegativeCycle}
 use Rattle.graph.specs.Shortest.{Shortest}
 use Rattle.graph.specs.Dijkstra.{tableNetwork, fromVertex, State, begin, nearer, best, who, rowOf, settle, turns}
-use Rattle.graph.proofs.Test.{by-test, and-both, and-not}
 use Rattle.graph.proofs.Int.{arithℤ, sum}
 use Rattle.graph.proofs.Pigeon.{pigeon}
 use Rattle.graph.proofs.Certificate.{Closed}

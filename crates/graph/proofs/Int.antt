@@ -9,7 +9,7 @@ use borrow.Author.Tests.{ltb-true, ltb-false}
 use lib.IntN.{ℤ, pos, negsuc, natAbs, subℕ, _+ℤ_}
 use lib.Signed.{ltZ, leZ, _≤ℤ_, _<ℤ_, ltZ-yes, ltZ-no}
 use lib.Dec.{T, ltb, leb→le, le→leb, ltb→lt, lt→ltb}
-use Rattle.graph.proofs.Test.{by-test}
+use Rattle.lists.proofs.Test.{by-test}
 
 abbrev pub up : ℤ → ℕ
 up (pos n) = n

@@ -1,6 +1,5 @@
 -- The theorems on Bellman-Ford, in place and by Jacobi passes, on Dijkstra and on routes, and what they rest on, in order.
 -- Rests on the definitions.
-pub mod Test
 pub mod Int
 pub mod Pigeon
 pub mod Walk

@@ -7,9 +7,9 @@ use Prim.Native.Nat.{ℕ, zero, suc, _<_, _≤_}
 use native.Mathlib.Omega.{arith}
 use lib.Dec.{eqb}
 use lib.IntN.{ℤ, pos, negsuc}
+use Rattle.lists.proofs.Test.{by-test}
 use Rattle.graph.specs.Walk.{Edge}
 use Rattle.graph.specs.BellmanFord.{State, start, gain, pass, passes}
-use Rattle.graph.proofs.Test.{by-test}
 
 -- No mark, or the number of one of m edges.
 abbrev pub Mark : (m : ℕ) → ℤ → Type 0

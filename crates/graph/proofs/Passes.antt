@@ -9,10 +9,10 @@ use native.Mathlib.Omega.{arith}
 use lib.IntN.{ℤ, pos, _+ℤ_}
 use lib.Signed.{_≤ℤ_, _<ℤ_}
 use lib.ListN.{length}
+use Rattle.lists.proofs.Test.{by-test}
 use Rattle.graph.specs.Walk.{Edge, Network, Chain, total, NegativeCycle, Below}
 use Rattle.graph.specs.Shortest.{Shortest}
 use Rattle.graph.specs.BellmanFord.{network, numbered, State, offer}
-use Rattle.graph.proofs.Test.{by-test}
 use Rattle.graph.proofs.Int.{arithℤ, sum, le-or-lt}
 use Rattle.graph.proofs.Walk.{WalkOf, one-more, shorten}
 use Rattle.graph.proofs.Certificate.{Closed, no-negative-cycle}

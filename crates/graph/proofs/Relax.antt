@@ -10,9 +10,9 @@ use borrow.Author.Tests.{eqb-true, eq-eqb}
 use lib.Dec.{eqb}
 use lib.IntN.{ℤ, pos, negsuc, natAbs, _+ℤ_}
 use lib.Signed.{ltZ, _≤ℤ_, _<ℤ_}
+use Rattle.lists.proofs.Test.{by-test, and-both, and-not}
 use Rattle.graph.specs.Walk.{Edge, Below}
 use Rattle.graph.specs.BellmanFord.{network, numbered, State, start, offer, Within}
-use Rattle.graph.proofs.Test.{by-test, and-both, and-not}
 use Rattle.graph.proofs.Int.{arithℤ, sum, abs-add, ltZ-true, ltZ-false, lt-ltZ}
 use Rattle.graph.proofs.Walk.{one-more}
 use Rattle.graph.proofs.Certificate.{Sound}

@@ -7,10 +7,10 @@ use borrow.Author.Tests.{ltb-true, ltb-false}
 use lib.Dec.{ltb}
 use lib.IntN.{ℤ, pos, natAbs, _+ℤ_}
 use lib.Signed.{_<ℤ_}
+use Rattle.lists.proofs.Test.{by-test}
 use Rattle.graph.specs.Walk.{Edge, Below}
 use Rattle.graph.specs.BellmanFord.{network, State, start, offer}
 use Rattle.graph.specs.Jacobi.{passes, jacobi, Rule, gained, stayed, Synchronous}
-use Rattle.graph.proofs.Test.{by-test}
 use Rattle.graph.proofs.Int.{arithℤ}
 use Rattle.graph.proofs.Jacobi.{low, rule}
 

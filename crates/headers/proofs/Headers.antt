@@ -8,7 +8,7 @@ use native.Mathlib.Omega.{arith}
 use lib.Dec.{eqb, ltb, ltb→lt, leb→le}
 use borrow.Author.Tests.{ne-eqb, eqb-true, lt-ltb, le-ltb, le-leb, lt-leb, not-true, not-false}
 use mir.Facts.{and-yes}
-use Rattle.fields.proofs.Test.{by-test}
+use Rattle.lists.proofs.Test.{by-test}
 use Rattle.answers.specs.declared.Refusal.{Refusal}
 use Rattle.answers.specs.Refusal.{Method, Vertices, Edges, Source, need}
 use Rattle.answers.proofs.Unmet.{first-none}

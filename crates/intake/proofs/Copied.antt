@@ -1,5 +1,5 @@
 -- A buffer written over, its first places or those from a place on, one after the other: the loops that do it, and what each place then holds.
--- Rests on blocks, on answers' Filled and on fields' Sets.
+-- Rests on blocks and on lists' Sets and Filled.
 use mathlib.Core.Path.{_≡_, refl, sym, ap, _∙_}
 use mathlib.Core.Logic.{⊎-elim}
 use mathlib.Core.List.{List, [], _∷_, _++_}
@@ -11,8 +11,8 @@ use lib.IntN.{ℤ, pos}
 use lib.ListN.{length, set, getD, drop, length-append, length-drop, List·getD-append}
 use lib.Seq.{sets, length-sets, drop-at, getD-append-add, getD-drop, getD-set-same, getD-set-other}
 use lib.Signed.{mag}
-use Rattle.answers.proofs.Filled.{Filling, again, done}
-use Rattle.fields.proofs.Sets.{sets-append}
+use Rattle.lists.proofs.Sets.{sets-append}
+use Rattle.lists.proofs.Filled.{Filling, again, done}
 use Rattle.machine.proofs.Tested.{back, kept}
 use Rattle.plans.specs.Blocks.{flat}
 use Rattle.plans.proofs.Blocks.{ones-length, ones-at}

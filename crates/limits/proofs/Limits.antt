@@ -13,7 +13,7 @@ use lib.ListN.{getD}
 use lib.Signed.{leZ, _≤ℤ_, leZ-yes}
 use mir.Facts.{and-yes, yes-and}
 use borrow.Author.Tests.{eq-eqb, eqb-true, eqb-false}
-use Rattle.fields.proofs.Test.{by-test}
+use Rattle.lists.proofs.Test.{by-test}
 use Rattle.answers.specs.declared.Refusal.{Refusal}
 use Rattle.answers.specs.Refusal.{plain, placed, orElse}
 use Rattle.answers.proofs.Unmet.{first-append}

@@ -12,11 +12,11 @@ use lib.ListN.{length, getD, drop, drop-of-length-le}
 use lib.Seq.{getD-drop}
 use lib.Signed.{ltZ, leZ, mag}
 use borrow.Author.Tests.{lt-ltb, le-ltb, le-leb, lt-leb, ltb-true, ltb-false, eq-eqb, ne-eqb}
+use Rattle.lists.proofs.Slices.{next}
 use Rattle.answers.specs.declared.Refusal.{Refusal}
 use Rattle.answers.specs.declared.Checked.{Checked}
 use Rattle.answers.specs.declared.Checked.the-variants.{Accepted, Refused}
 use Rattle.answers.specs.Refusal.{SpareBits, Weight, FromVertex, ToVertex, Unsorted, Destination, need, found, orElse}
-use Rattle.answers.proofs.Filled.{next}
 use Rattle.answers.proofs.Unmet.{first-append}
 use Rattle.machine.proofs.Tested.{back, kept}
 use Rattle.plans.specs.declared.Header.{Header}

@@ -6,8 +6,8 @@ use mathlib.Core.Option.{Option, none, some}
 use Prim.Native.Nat.{ℕ, zero, suc, _<_, _≤_}
 use native.Mathlib.Omega.{arith}
 use lib.ListN.{length, getD, drop, length-append}
+use Rattle.lists.specs.Buffers.{overwritten}
 use Rattle.answers.specs.declared.Refusal.{Refusal}
-use Rattle.answers.specs.Buffers.{overwritten}
 use Rattle.limits.specs.WithinLimits.{headerIn}
 use Rattle.demands.specs.Run.{Lent, logOfRun, verdictOfRun, refusalOf, ranBy, outcomeBy, outcome}
 use Rattle.demands.proofs.Ran.{allowed}

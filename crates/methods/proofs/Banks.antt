@@ -11,7 +11,7 @@ use lib.Dec.{eqb}
 use lib.IntN.{ℤ, pos}
 use lib.ListN.{length, length-set}
 use lib.Signed.{ltZ}
-use Rattle.fields.proofs.Sets.{set-at}
+use Rattle.lists.proofs.Sets.{set-at}
 use Rattle.machine.specs.Instruction.{Instruction, SET, COPY, ADD, LESS, EQUAL, BOTH, MOVEIF, OPEN, addresses, All}
 use Rattle.machine.specs.Effect.{Effect, writes, nothing, effect, eqZ, bit, both, pick, wrapAdd, cellAt, written, perform}
 use Rattle.plans.specs.Outline.{Outline, start, instructions}

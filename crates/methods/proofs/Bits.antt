@@ -9,9 +9,9 @@ use borrow.Author.Tests.{eqb-true}
 use lib.Dec.{eqb}
 use lib.IntN.{ℤ, pos, negsuc, natAbs, _+ℤ_}
 use lib.Signed.{mag}
+use Rattle.lists.proofs.Test.{by-test}
 use Rattle.machine.specs.Effect.{bit, both, pick, wrapAdd}
 use Rattle.machine.proofs.Exact.{wrap-exact}
-use Rattle.graph.proofs.Test.{by-test}
 use Rattle.graph.proofs.Int.{abs-add}
 
 pub both-bit : (a b : Bool) → both (bit a) (bit b) ≡ bit (a && b)

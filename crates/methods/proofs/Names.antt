@@ -9,8 +9,8 @@ use borrow.Author.Tests.{eq-eqb, ne-eqb, eqb-true}
 use lib.Dec.{eqb}
 use lib.IntN.{ℤ}
 use lib.ListN.{getD}
+use Rattle.lists.proofs.Test.{by-test, and-both}
 use Rattle.plans.specs.Regions.{address, cell}
-use Rattle.graph.proofs.Test.{by-test, and-both}
 use Rattle.methods.proofs.Banks.{Layout}
 
 abbrev pub Name : Type 0

@@ -5,11 +5,11 @@ use mathlib.Core.List.{List}
 use Prim.Native.Nat.{ℕ, _<_, _≤_}
 use native.Mathlib.Omega.{arith}
 use lib.ListN.{length, set, drop, length-set, length-append, length-drop}
+use Rattle.lists.specs.Buffers.{overwritten}
+use Rattle.lists.proofs.Filled.{from-start}
 use Rattle.plans.specs.declared.Header.{Header}
 use Rattle.plans.specs.Plan.{Accepted, headerWord, planOf, lengthOf}
 use Rattle.plans.proofs.Figures.{length-plan}
-use Rattle.answers.specs.Buffers.{overwritten}
-use Rattle.answers.proofs.Filled.{from-start}
 use Rattle.tables.specs.Writing.{Wrote}
 
 module _ (h : Header) (a : Accepted h) (buffer : List ℕ) (room : lengthOf h ≤ length buffer) where

@@ -13,7 +13,7 @@ ghost use Prim.Native.Nat.{_≤_};
 ghost use lib.ListN.{length, drop};
 ghost use Rattle.plans.specs.Plan.{Accepted, planOf, lengthOf};
 ghost use Rattle.tables.specs.Writing.{Wrote};
-ghost use Rattle.answers.specs.Buffers.{overwritten};
+ghost use Rattle.lists.specs.Buffers.{overwritten};
 ghost use Rattle.planner.specs.Written.{WrittenPlan};
 
 // What writing a plan answers: its length, or a refusal.

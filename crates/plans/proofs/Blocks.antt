@@ -1,4 +1,4 @@
--- Lists made of blocks: sums over a weight, one element for each place, what holds of every element, and lists mapped. For any type of elements.
+-- Lists made of blocks: sums over a weight, equal blocks, one element for each place, what holds of every element, and lists mapped. For any type of elements.
 -- Rests on the definitions alone.
 use mathlib.Core.Path.{_≡_, refl, sym, ap, ap₂, _∙_}
 use mathlib.Core.Logic.{⊎-elim}
@@ -44,6 +44,13 @@ pub sum-map : {X Z : Type 0} (P : X → Type 0) (w : X → ℕ) (f : X → Z) (u
 unfolding sumOf
 sum-map P w f u s [] p = refl
 sum-map P w f u s (x ∷ xs) p = omega (arith, s x (p .0), sum-map P w f u s xs (p .1))
+
+-- ---- equal blocks
+
+pub flat-same : {X : Type 0} (count : ℕ) (f g : ℕ → List X) → ((j : ℕ) → j < count → f j ≡ g j) → flat count f ≡ flat count g
+unfolding flat
+flat-same zero f g e = refl
+flat-same (suc count) f g e = rw (e count (lt-suc-self count), flat-same count f g (λ j h. e j (le-step h)))
 
 -- ---- one element for each place
 

@@ -7,7 +7,7 @@ use native.Mathlib.Omega.{arith}
 use borrow.Author.Tests.{eqb-true}
 use lib.Dec.{T, eqb}
 use lib.ListN.{length, length-map}
-use Rattle.fields.proofs.Test.{by-test}
+use Rattle.lists.proofs.Test.{by-test}
 use Rattle.machine.specs.Instruction.{All}
 use Rattle.machine.specs.Word.{encode}
 use Rattle.plans.specs.declared.Header.{Header}

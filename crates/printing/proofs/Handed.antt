@@ -1,5 +1,5 @@
 -- How many words bytes count as, and what stands in the buffer of words: what the code's tests and lengths need.
--- Rests on the laws of blocks and text's Arrays.
+-- Rests on the laws of blocks and lists' Slices.
 use mathlib.Core.Path.{_≡_, refl, sym, _∙_}
 use mathlib.Core.Logic.{⊎-elim}
 use mathlib.Core.Bool.{Bool, true, false, cond}
@@ -11,8 +11,8 @@ use lib.Dec.{ltb, eqb}
 use lib.ListN.{length, getD, drop, take, replicate, length-append, length-drop, getD-replicate}
 use lib.Seq.{getD-take}
 use borrow.Author.Tests.{lt-ltb, le-ltb, eq-eqb, ne-eqb}
-use Rattle.text.proofs.Arrays.{counted}
-use Rattle.answers.specs.Buffers.{overwritten}
+use Rattle.lists.specs.Buffers.{overwritten}
+use Rattle.lists.proofs.Slices.{counted}
 use Rattle.plans.proofs.Blocks.{ones-length, ones-at}
 use Rattle.printing.specs.Bytes.{wordAt, tooMany, wholeCount, wholeWords, handedOver, requestOf}
 

@@ -1,20 +1,19 @@
 -- The short listing leaves out the vertices that no walk leads to, and nothing else; a refusal has one text.
 -- Rests on demand 2, Unrefused and the machine's Tested.
-use mathlib.Core.Path.{_≡_, refl}
+use mathlib.Core.Path.{_≡_}
 use mathlib.Core.Logic.{_⊎_, inl, inr, _≢_}
 use mathlib.Core.Bool.{true, false, true≢false}
 use mathlib.Core.List.{List, [], _∷_}
 use Prim.Native.Nat.{ℕ, _<_}
 use borrow.Author.Tests.{eq-eqb, ne-eqb}
-use lib.IntN.{ℤ}
 use lib.ListN.{getD}
+use Rattle.lists.proofs.Test.{by-test}
 use Rattle.text.specs.Text.{numbersLine}
 use Rattle.machine.specs.Effect.{eqZ}
 use Rattle.machine.proofs.Tested.{equal}
 use Rattle.plans.specs.Limits.{far}
 use Rattle.plans.specs.Plan.{distances, parents, route}
 use Rattle.limits.specs.WithinLimits.{headerIn}
-use Rattle.graph.proofs.Test.{by-test}
 use Rattle.demands.specs.Run.{Lent, Outcome, outcome}
 use Rattle.demands.specs.Demands.{resultOf}
 use Rattle.demands.proofs.Theorems.{one-source}

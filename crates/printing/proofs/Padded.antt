@@ -2,7 +2,7 @@
 -- Rests on Handed, plans' Bounds and Headers, and headers' Headers.
 use mathlib.Core.Path.{_≡_, refl, sym, ap, _∙_}
 use mathlib.Core.Logic.{_⊎_, inr, ⊎-elim}
-use mathlib.Core.List.{List, [], _∷_, _++_}
+use mathlib.Core.List.{List, [], _∷_}
 use mathlib.Core.Option.{Option, none, some}
 use Prim.Native.Nat.{ℕ, zero, suc, _+_, _*_, _%_, _<_, _≤_}
 use native.Mathlib.Nat.{eq-zero-or-pos}
@@ -10,13 +10,14 @@ use native.Mathlib.Omega.{arith}
 use lib.ListN.{length, getD, take, drop, replicate, List·getD-append}
 use lib.Seq.{take-all, getD-take, length-take-le}
 use borrow.Author.Tests.{ne-eqb}
+use Rattle.lists.specs.Buffers.{overwritten}
 use Rattle.fields.specs.Fields.{joinOf}
 use Rattle.answers.specs.declared.Refusal.{Refusal}
 use Rattle.answers.specs.Refusal.{Words, orElse}
-use Rattle.answers.specs.Buffers.{overwritten}
 use Rattle.plans.specs.declared.Header.{Header}
 use Rattle.plans.specs.Plan.{Accepted, headerOf, wordCountOf}
 use Rattle.plans.specs.Blocks.{flat}
+use Rattle.plans.proofs.Blocks.{flat-same}
 use Rattle.plans.proofs.Bounds.{square-le}
 use Rattle.plans.proofs.Headers.{by-method}
 use Rattle.headers.specs.Refusal.{headerRefusal}
@@ -84,13 +85,6 @@ joined-cut n bytes at zero h = refl
 joined-cut n bytes at (suc count) h =
     ap (λ (w : ℕ). joinOf w (getD (take n bytes) (at + count) 0) 8) (joined-cut n bytes at count (omega arith))
     ∙ ap (λ (b : ℕ). joinOf (joinedFrom bytes at count) b 8) (getD-take n bytes (at + count) 0 (omega arith))
-
-flat-same : (count : ℕ) (f g : ℕ → List ℕ) → ((k : ℕ) → k < count → f k ≡ g k) → flat count f ≡ flat count g
-unfolding flat
-flat-same zero f g h = refl
-flat-same (suc count) f g h =
-    ap (λ (xs : List ℕ). xs ++ f count) (flat-same count f g (λ k l. h k (omega arith)))
-    ∙ ap (λ (xs : List ℕ). flat count g ++ xs) (h count (omega arith))
 
 cut-words : (bytes : List ℕ) → 8208 ≤ length bytes → wholeWords (take 8208 bytes) ≡ wholeWords bytes
 unfolding wholeWords

@@ -9,8 +9,8 @@ use native.Mathlib.Nat.{eq-zero-or-pos}
 use native.Mathlib.Omega.{arith}
 use lib.ListN.{length, take, drop, replicate}
 use lib.Seq.{take-all, take-append-seam}
+use Rattle.lists.specs.Buffers.{overwritten}
 use Rattle.answers.specs.Refusal.{Method, Words, orElse}
-use Rattle.answers.specs.Buffers.{overwritten}
 use Rattle.plans.specs.Plan.{headerOf}
 use Rattle.plans.specs.Blocks.{flat}
 use Rattle.headers.specs.Refusal.{headerRefusal}

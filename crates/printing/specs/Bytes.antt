@@ -5,8 +5,8 @@ use mathlib.Core.List.{List, [], _∷_}
 use Prim.Native.Nat.{ℕ, zero, suc, _+_, _*_, _/_, _%_, min}
 use lib.Dec.{ltb, eqb}
 use lib.ListN.{length, getD, take, replicate}
+use Rattle.lists.specs.Buffers.{overwritten}
 use Rattle.fields.specs.Fields.{joinOf}
-use Rattle.answers.specs.Buffers.{overwritten}
 use Rattle.plans.specs.Blocks.{flat}
 
 -- The bytes from place `at` on, `count` of them, joined.

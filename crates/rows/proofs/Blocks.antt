@@ -1,16 +1,11 @@
--- Loops of equal blocks are equal, and as long as their count says; the first turn taken off. Rests on the definitions alone.
-use mathlib.Core.Path.{_≡_, refl, sym, ap, _∙_}
+-- Loops of equally long blocks are as long as their count says; the first turn taken off. Rests on the definitions alone.
+use mathlib.Core.Path.{_≡_, sym, ap, _∙_}
 use mathlib.Core.List.{List, _++_, append-assoc, append-nil}
-use Prim.Native.Nat.{ℕ, zero, suc, _*_, _<_}
-use native.Mathlib.Nat.{le-step, lt-suc-self, zero-mul, suc-mul}
+use Prim.Native.Nat.{ℕ, zero, suc, _*_}
+use native.Mathlib.Nat.{zero-mul, suc-mul}
 use native.Mathlib.Omega.{arith}
 use lib.ListN.{length, length-append}
 use Rattle.plans.specs.Blocks.{flat}
-
-pub flat-same : {X : Type 0} (count : ℕ) (f g : ℕ → List X) → ((j : ℕ) → j < count → f j ≡ g j) → flat count f ≡ flat count g
-unfolding flat
-flat-same zero f g e = refl
-flat-same (suc count) f g e = rw (e count (lt-suc-self count), flat-same count f g (λ j h. e j (le-step h)))
 
 pub flat-length : {X : Type 0} (size : ℕ) (f : ℕ → List X) → ((j : ℕ) → length (f j) ≡ size)
     → (count : ℕ) → length (flat count f) ≡ count * size

@@ -16,11 +16,10 @@ use Rattle.plans.specs.declared.Counters.{Counters}
 use Rattle.plans.specs.Blocks.{flat}
 use Rattle.plans.specs.Regions.{address}
 use Rattle.plans.specs.Outline.{Level, outer, middle, inner, counter, counted-to, Count, vertices, others, edges, times, timesOf, Spot, fixed, at, after, entry, spotOf, Cell, cellOf, Number, small, minus-one, unreached, counted, from-source, numberOf, Line, set, copy, add, less, equal, both, moveif, opens, instructionOf, Outline, end, line, run, each, again, instructions}
-use Rattle.plans.proofs.Blocks.{map-flat}
+use Rattle.plans.proofs.Blocks.{flat-same, map-flat}
 use Rattle.rows.specs.declared.Row.{Row}
 use Rattle.rows.specs.Table.{wordOf, turned, expand, Inside}
 use Rattle.rows.specs.Rows.{envOf, same, offset, once, rowwise, baseOf, strideOf, rawOf, rawStep, rawOther, wordRow, loopRow, rowOf, countOf, kindOf, rowsOf}
-use Rattle.rows.proofs.Blocks.{flat-same}
 
 -- ---- numbers that move with the counters
 

@@ -9,10 +9,11 @@ use native.Mathlib.Omega.{arith}
 use lib.ListN.{length, getD, set, take, drop, drop-of-length-le}
 use lib.Seq.{sets, length-sets, drop-cons}
 use Rattle.plans.specs.Blocks.{flat}
+use Rattle.plans.proofs.Blocks.{flat-same}
 use Rattle.rows.specs.declared.Row.{Row}
 use Rattle.rows.specs.Table.{rowAt, rowsIn}
 use Rattle.rows.specs.Code.{rowOfCode}
-use Rattle.rows.proofs.Blocks.{flat-same, flat-front}
+use Rattle.rows.proofs.Blocks.{flat-front}
 use Rattle.rows.proofs.Read.{sets-before, sets-in}
 
 -- ---- rows from a place on

@@ -7,9 +7,9 @@ use native.Mathlib.Omega.{arith}
 use lib.IntN.{ℤ}
 use lib.ListN.{length, drop}
 use borrow.Author.Tests.{le-leb, lt-leb}
+use Rattle.lists.specs.Buffers.{overwritten}
 use Rattle.answers.specs.declared.Refusal.{Refusal}
 use Rattle.answers.specs.Refusal.{Log, Operation}
-use Rattle.answers.specs.Buffers.{overwritten}
 use Rattle.machine.specs.Log.{Admitted, cellsAfter, logOf}
 use Rattle.machine.proofs.Replayed.{charge-log}
 use Rattle.charge.specs.Worked.{WorkedOut}

@@ -11,10 +11,10 @@ use lib.Dec.{T, leb}
 use lib.IntN.{ℤ}
 use lib.ListN.{length, getD, drop}
 use lib.Seq.{take-append-seam, drop-at}
+use Rattle.lists.specs.Buffers.{overwritten}
 use Rattle.answers.specs.declared.Refusal.{Refusal}
 use Rattle.answers.specs.Refusal.{Log}
 use Rattle.answers.specs.Told.{refused}
-use Rattle.answers.specs.Buffers.{overwritten}
 use Rattle.answers.proofs.Unmet.{need-none, orElse-none}
 use Rattle.machine.specs.Instruction.{All}
 use Rattle.machine.specs.Effect.{cellAt}

@@ -1,5 +1,5 @@
 -- The lowest bad place of a plan: the laws of the loop that looks for it, and what is then known of each place.
--- Rests on answers' Filled.
+-- Rests on lists' Slices.
 use mathlib.Core.Path.{_≡_, refl, sym, ap, _∙_}
 use mathlib.Core.Bool.{Bool, true, false, not, _||_, cond}
 use mathlib.Core.List.{List, [], _∷_}
@@ -12,7 +12,7 @@ use native.Mathlib.Omega.{arith}
 use lib.Dec.{T, leb}
 use lib.ListN.{length, getD, drop, length-drop, drop-of-length-le}
 use lib.Seq.{drop-cons}
-use Rattle.answers.proofs.Filled.{next}
+use Rattle.lists.proofs.Slices.{next}
 use Rattle.machine.specs.Word.{admissible}
 use Rattle.machine.specs.Log.{Admitted}
 use Rattle.runner.specs.Runner.{badAt, firstBad, foundOf}

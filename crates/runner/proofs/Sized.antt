@@ -1,4 +1,4 @@
--- The length of a plan's log: the laws of the loop that counts it, and that it is `logSize`. Rests on answers' Filled.
+-- The length of a plan's log: the laws of the loop that counts it, and that it is `logSize`. Rests on lists' Slices.
 use mathlib.Core.Path.{_≡_, refl, ap}
 use mathlib.Core.Bool.{Bool, true, false, cond}
 use mathlib.Core.List.{List, [], _∷_}
@@ -7,8 +7,8 @@ use native.Mathlib.Omega.{arith}
 use lib.IntN.{ℤ}
 use lib.ListN.{length, getD, drop, length-append, drop-of-length-le}
 use borrow.Author.Tests.{eq-eqb, ne-eqb}
+use Rattle.lists.proofs.Slices.{next}
 use Rattle.fields.specs.Fields.{bitsOf}
-use Rattle.answers.proofs.Filled.{next}
 use Rattle.machine.specs.Effect.{cellAt}
 use Rattle.machine.specs.Word.{opField, aField}
 use Rattle.machine.specs.Log.{carried, opens, logged, logFrom, logOf, sumOf}

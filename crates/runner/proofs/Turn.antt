@@ -1,5 +1,5 @@
 -- The loop that carries a plan's words out and logs them, wherever the words come from: its invariant and its laws.
--- Rests on answers' Filled, fields' Sets and machine's Carried.
+-- Rests on lists' Slices, Sets and Filled and on machine's Carried.
 use mathlib.Core.Path.{_≡_, refl, sym, ap, _∙_}
 use mathlib.Core.List.{List, [], _∷_, _++_}
 use Prim.Native.Nat.{ℕ, _+_, _<_, _≤_}
@@ -8,8 +8,9 @@ use lib.Dec.{T}
 use lib.IntN.{ℤ}
 use lib.ListN.{length, getD, set, drop, length-set, length-append, drop-of-length-le}
 use lib.Seq.{sets, length-sets}
-use Rattle.fields.proofs.Sets.{sets-append}
-use Rattle.answers.proofs.Filled.{next, from-start}
+use Rattle.lists.proofs.Slices.{next}
+use Rattle.lists.proofs.Sets.{sets-append}
+use Rattle.lists.proofs.Filled.{from-start}
 use Rattle.machine.specs.Word.{admissible}
 use Rattle.machine.specs.Log.{carried, logged, Admitted, cellsAfter, logFrom, logOf}
 use Rattle.machine.proofs.Carried.{length-carried}

@@ -8,10 +8,10 @@ use Prim.Native.Nat.{ℕ, suc, _+_}
 use lib.Dec.{leb}
 use lib.IntN.{ℤ}
 use lib.ListN.{length, getD, take, drop}
+use Rattle.lists.specs.Buffers.{overwritten}
 use Rattle.answers.specs.declared.Refusal.{Refusal}
 use Rattle.answers.specs.Refusal.{Log, Operation, need, orElse}
 use Rattle.answers.specs.Told.{Told, refused}
-use Rattle.answers.specs.Buffers.{overwritten}
 use Rattle.machine.specs.Word.{admissible}
 use Rattle.machine.specs.Log.{opens, cellsAfter, logOf, sumOf}
 use Rattle.machine.specs.Depth.{chargeOf}

@@ -1,5 +1,5 @@
 -- Laws of words written to a buffer: none, one, one list after another, and turn by turn in a loop.
--- Rests on Writing's RoomAt and Wrote, and on fields' Sets.
+-- Rests on Writing's RoomAt and Wrote, and on lists' Sets.
 use mathlib.Core.Path.{_≡_, refl, sym, ap, subst, _∙_}
 use mathlib.Core.Logic.{⊎-elim}
 use mathlib.Core.List.{List, [], _∷_, _++_, append-assoc, append-nil}
@@ -9,8 +9,8 @@ use native.Mathlib.Numerals.{add-one}
 use native.Mathlib.Omega.{arith}
 use lib.ListN.{length, set, length-append}
 use lib.Seq.{sets, length-sets}
+use Rattle.lists.proofs.Sets.{sets-append}
 use Rattle.machine.specs.Instruction.{All}
-use Rattle.fields.proofs.Sets.{sets-append}
 use Rattle.plans.specs.Blocks.{flat}
 use Rattle.tables.specs.Writing.{RoomAt, Wrote}
 

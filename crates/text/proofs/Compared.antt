@@ -1,5 +1,5 @@
 -- Two texts compared: they have the same bytes exactly when they are equal; and the loop that compares them byte by byte.
--- Rests on Lines.
+-- Rests on lists' Slices.
 use mathlib.Core.Path.{_≡_, refl, sym, ap, _∙_}
 use mathlib.Core.Logic.{_↔_, _≢_}
 use mathlib.Core.Bool.{true, false, _&&_, true≢false, and-eq-true-iff, not-eq-not}
@@ -8,8 +8,8 @@ use Prim.Native.Nat.{ℕ, _+_, _<_, _≤_}
 use borrow.Author.Tests.{eq-eqb, eqb-true}
 use lib.Dec.{eqb}
 use lib.ListN.{length, getD, drop, drop-of-length-le}
+use Rattle.lists.proofs.Slices.{next}
 use Rattle.text.specs.Text.{sameBytes}
-use Rattle.text.proofs.Lines.{next}
 
 -- ---- the definition is equality
 
@@ -46,7 +46,7 @@ module _ (xs ys : List ℕ) (k : ℕ) where
     pub again : k < length xs → k < length ys → getD xs k 0 ≡ getD ys k 0 → sameBytes (drop (k + 1) xs) (drop (k + 1) ys) ≡ sameBytes xs ys
     unfolding sameBytes
     again l m e =
-        sym (ap (_&& sameBytes (drop (k + 1) xs) (drop (k + 1) ys)) (eq-eqb (getD xs k 0) (getD ys k 0) e)) ∙ (rw (next xs k l, next ys k m) at rest)
+        sym (ap (_&& sameBytes (drop (k + 1) xs) (drop (k + 1) ys)) (eq-eqb (getD xs k 0) (getD ys k 0) e)) ∙ (rw (next xs k 0 l, next ys k 0 m) at rest)
 
     pub finish : length xs ≤ k → length ys ≤ k → true ≡ sameBytes xs ys
     unfolding sameBytes

@@ -1,5 +1,4 @@
 pub mod Written
 pub mod Digits
 pub mod Lines
-pub mod Arrays
 pub mod Compared

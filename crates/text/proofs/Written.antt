@@ -1,5 +1,5 @@
 -- Laws of texts written to a buffer: one after the other, and part by part in a loop.
--- Rests on fields' Sets.
+-- Rests on lists' Sets.
 use mathlib.Core.Path.{_≡_, refl, sym, ap, subst, _∙_}
 use mathlib.Core.List.{List, [], _∷_, _++_, append-assoc, append-nil}
 use Prim.Native.Nat.{ℕ, _+_, _≤_}
@@ -7,7 +7,7 @@ use native.Mathlib.Nat.{add-zero}
 use native.Mathlib.Omega.{arith}
 use lib.ListN.{set, length-set, length-append}
 use lib.Seq.{sets}
-use Rattle.fields.proofs.Sets.{sets-append}
+use Rattle.lists.proofs.Sets.{sets-append}
 use Rattle.text.specs.Text.{Put}
 
 -- Nothing.

@@ -1,5 +1,5 @@
 // Text written to a lent buffer, from a place on: each function that writes returns the place after it. And two texts compared.
-// Rests on fields and io.
+// Rests on fields, lists and io.
 ghost use mathlib.Core.Path.{_≡_};
 ghost use mathlib.Core.List.{[], _∷_};
 ghost use Prim.Native.Nat.{_+_, _*_, _<_, _≤_};

@@ -1,11 +1,11 @@
--- `console::run_bytes` meets its contract. Rests on Handed and text's Arrays.
+-- `console::run_bytes` meets its contract. Rests on Handed and lists' Slices.
 use borrow.Author.Needs.{needs}
 use mathlib.Core.Path.{_≡_, sym, ap, _∙_}
 use Prim.Native.Nat.{ℕ, _≤_}
 use native.Mathlib.Omega.{arith}
 use mathlib.Core.List.{List}
 use lib.ListN.{length, getD}
-use Rattle.text.proofs.Arrays.{counted}
+use Rattle.lists.proofs.Slices.{counted}
 use Rattle.plans.specs.Plan.{headerOf}
 use lib.Seq.{length-take-le}
 use Rattle.printing.specs.Bytes.{wholeWords, requestOf}

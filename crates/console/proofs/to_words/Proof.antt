@@ -1,10 +1,10 @@
 -- `console::to_words` meets its contract: before word k, what is left of the words is still to write.
--- Rests on Handed and answers' Filled.
+-- Rests on Handed and lists' Filled.
 use borrow.Author.Needs.{needs}
 use mathlib.Core.Path.{sym, _∙_}
 use Prim.Native.Nat.{_-_}
 use native.Mathlib.Omega.{arith}
-use Rattle.answers.proofs.Filled.{Filling, start, again, done}
+use Rattle.lists.proofs.Filled.{Filling, start, again, done}
 use Rattle.printing.specs.Bytes.{wholeWords}
 use Rattle.printing.proofs.Handed.{whole-length, whole-at}
 use Rattle.console.proofs.to_words.Statement.{statement}

@@ -3,7 +3,7 @@ use borrow.Author.Needs.{needs}
 use mathlib.Core.Path.{refl}
 use Prim.Native.Nat.{_+_, _-_}
 use native.Mathlib.Omega.{arith}
-use Rattle.answers.proofs.Filled.{Filling, start}
+use Rattle.lists.proofs.Filled.{Filling, start}
 use Rattle.machine.specs.Effect.{cellAt}
 use Rattle.intake.proofs.Copied.{ones, one-copied, all-copied}
 use Rattle.engine.proofs.copy_out.Statement.{statement}

@@ -1,10 +1,10 @@
--- `figures::show` is safe: what a run answers fits its buffers. Rests on text's Arrays and lines' Answered.
+-- `figures::show` is safe: what a run answers fits its buffers. Rests on lists' Slices and lines' Answered.
 use borrow.Author.Needs.{needs}
 use mathlib.Core.Path.{sym}
 use Prim.Native.Nat.{ℕ}
 use lib.IntN.{ℤ, pos}
 use lib.Seq.{length-take-le}
-use Rattle.text.proofs.Arrays.{counted}
+use Rattle.lists.proofs.Slices.{counted}
 use Rattle.lines.proofs.Answered.{few-vertices}
 use Rattle.figures.proofs.show.Statement.{statement}
 use Rattle.figures.proofs.show.Tie as tie

@@ -4,7 +4,7 @@ use Prim.Native.Nat.{_-_}
 use mathlib.Core.Path.{refl}
 use native.Mathlib.Omega.{arith}
 use lib.IntN.{pos}
-use Rattle.answers.proofs.Filled.{Filling, start}
+use Rattle.lists.proofs.Filled.{Filling, start}
 use Rattle.intake.proofs.Copied.{ones, one-copied, all-copied}
 use Rattle.intake.proofs.clear.Statement.{statement}
 use Rattle.intake.proofs.clear.Tie as tie

@@ -1,9 +1,9 @@
--- `text::put_bytes` meets its contract: before byte i, the bytes from i on are left. Rests on Written and Lines.
+-- `text::put_bytes` meets its contract: before byte i, the bytes from i on are left. Rests on Written and lists' Slices.
 use Prim.Native.Nat.{_-_, _≤_}
 use native.Mathlib.Omega.{arith}
 use lib.ListN.{length, drop, drop-of-length-le}
+use Rattle.lists.proofs.Slices.{next}
 use Rattle.text.proofs.Written.{Writing, start, again, finish}
-use Rattle.text.proofs.Lines.{next}
 use Rattle.text.proofs.put_bytes.Statement.{statement}
 use Rattle.text.proofs.put_bytes.Tie as tie
 
@@ -20,7 +20,7 @@ loop-again : tie.Need-loop-again Inv-loop μ-loop
 loop-again c =
     let p = c .before .before in
     let l = p .before .before .before .before in
-    (omega arith, again (l .loop .inv .1) _ (omega arith) (next (l .before .before .before .args .bytes .now) (l .loop .i) (omega arith)) (p .put-byte .ensures))
+    (omega arith, again (l .loop .inv .1) _ (omega arith) (next (l .before .before .before .args .bytes .now) (l .loop .i) 0 (omega arith)) (p .put-byte .ensures))
 
 returns : tie.Need-returns Inv-loop μ-loop
 returns c =

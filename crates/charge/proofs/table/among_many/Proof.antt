@@ -1,5 +1,7 @@
--- `charge::table::among_many` meets its contract. Rests on Fitting.
-use Rattle.charge.proofs.Fitting.{counted, admitted-fresh, fresh}
+-- `charge::table::among_many` meets its contract. Rests on Fitting and lists' Slices.
+use Prim.Native.Nat.{ℕ}
+use Rattle.lists.proofs.Slices.{counted}
+use Rattle.charge.proofs.Fitting.{admitted-fresh, fresh}
 use Rattle.charge.proofs.table.among_many.Statement.{statement}
 use Rattle.charge.proofs.table.among_many.Tie as tie
 
@@ -9,4 +11,4 @@ deepen-all-requires c κs =
     (admitted-fresh 16384 0 (s .args .words .now) (s .pre .0), s .pre .1, fresh 16384)
 
 pub among-many-spec : {M : Type 1} → statement M
-among-many-spec = tie.close (tie.spec (λ c. counted 16384 0) deepen-all-requires (λ c. c .before .deepen-all .ensures))
+among-many-spec = tie.close (tie.spec (λ c. counted {X = ℕ} 16384 0) deepen-all-requires (λ c. c .before .deepen-all .ensures))

@@ -1,10 +1,10 @@
--- `charge::table::deepen` meets its contract. Rests on Words, Deepening and fields' Sets.
+-- `charge::table::deepen` meets its contract. Rests on Words, Deepening and lists' Sets.
 use borrow.Author.Needs.{needs}
 use Prim.Native.Nat.{_+_, _<_, _≤_, _^_}
 use native.Mathlib.Omega.{arith}
 use lib.Dec.{T}
 use lib.ListN.{length}
-use Rattle.fields.proofs.Sets.{set-at}
+use Rattle.lists.proofs.Sets.{set-at}
 use Rattle.machine.specs.Word.{admissibleAt}
 use Rattle.machine.proofs.Parted.{admitted-fields}
 use Rattle.charge.proofs.Words.{d-there, deepens-open, deepens-other}

@@ -8,7 +8,7 @@ use lib.Dec.{eqb}
 use lib.ListN.{length, getD, set}
 use lib.Seq.{sets, getD-set-same, getD-set-other}
 use borrow.Author.Tests.{eqb-true, eqb-false}
-use Rattle.fields.proofs.Test.{by-test}
+use Rattle.lists.proofs.Test.{by-test}
 
 -- What stands at place k once x is written at i.
 pub set-at : {X : Type 0} (b : List X) (i k : ℕ) (x none : X) → i < length b → getD (set b i x) k none ≡ cond (eqb i k) x (getD b k none)

@@ -1,20 +1,16 @@
 -- A list written from the start of a buffer, one element after the other: the loop's invariant and its laws. For any type of elements.
 -- Rests on the definition of a written buffer.
 use mathlib.Core.Path.{_≡_, refl, sym, ap, _∙_}
-use mathlib.Core.List.{List, _∷_, _++_}
+use mathlib.Core.List.{List, _++_}
 use Prim.Native.Nat.{ℕ, _+_, _<_, _≤_, zero-le}
 use native.Mathlib.Nat.{zero-add}
 use native.Mathlib.Numerals.{add-one}
 use native.Mathlib.Omega.{arith}
 use lib.ListN.{length, getD, set, drop, length-set, drop-of-length-le}
 use lib.Seq.{drop-cons, sets, sets-eq}
-use Rattle.answers.specs.Buffers.{overwritten}
+use Rattle.lists.specs.Buffers.{overwritten}
 
 module _ {X : Type 0} where
-  -- d is what a look-up gives past a list's end.
-  pub next : (xs : List X) (k : ℕ) (d : X) → k < length xs → drop k xs ≡ getD xs k d ∷ drop (k + 1) xs
-  next xs k d h = rw (add-one, drop-cons xs k d h)
-
   -- From the start of a buffer, which stays as it was beyond them.
   pub from-start : (xs buffer : List X) → length xs ≤ length buffer → sets buffer 0 xs ≡ overwritten xs buffer
   from-start xs buffer h =

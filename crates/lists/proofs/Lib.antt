@@ -1,0 +1,4 @@
+pub mod Test
+pub mod Slices
+pub mod Sets
+pub mod Filled

@@ -1,0 +1,2 @@
+// Theory only: tests, lists and what is written to a lent buffer, where the toolchain's library has no law.
+// Rests on nothing.
