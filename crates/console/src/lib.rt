@@ -1,5 +1,5 @@
 // The desk's program and `host_log` but for reading and writing: from an argument and a request's bytes to the text of its answer, or of its log.
-// Rests on engine and lines.
+// Rests on engine, printing and replies.
 use engine::Answer;
 use plans::Header;
 ghost use mathlib.Core.Path.{_≡_};
@@ -114,7 +114,7 @@ pub fn desk_text(argument: &[u8], bytes: &[u8], text: &mut [u8; 2894]) -> usize
     );
     let header = served.header;
     let answer = served.answer;
-    lines::put_answer(text, all, header, answer, &distances, &parents, &route)
+    replies::put_answer(text, all, header, answer, &distances, &parents, &route)
 }
 
 // What `host_log` prints for the bytes that it read: the log that the host has of the run.
@@ -135,5 +135,5 @@ pub fn host_text(bytes: &[u8], text: &mut [u8; 139264]) -> usize
         &mut route,
     );
     let answer = served.answer;
-    lines::put_log(text, answer, &log)
+    replies::put_log(text, answer, &log)
 }

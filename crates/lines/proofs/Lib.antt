@@ -1,4 +1,2 @@
 pub mod Repeated
-pub mod Fits
-pub mod Answered
-pub mod LeftOut
+pub mod Left

@@ -1,11 +1,11 @@
--- `console::desk_text` meets its contract. Rests on Whole, lists' Slices and lines' Answered.
+-- `console::desk_text` meets its contract. Rests on Whole, lists' Slices and replies' Answered.
 use borrow.Author.Needs.{needs}
 use Prim.Native.Nat.{ℕ}
 use native.Mathlib.Omega.{arith}
 use lib.IntN.{ℤ, pos}
 use Rattle.lists.proofs.Slices.{counted}
 use Rattle.printing.specs.Desk.{deskText}
-use Rattle.lines.proofs.Answered.{distinct, few-vertices, answer-text}
+use Rattle.replies.proofs.Answered.{distinct, few-vertices, answer-text}
 use Rattle.console.proofs.Whole.{printed}
 use Rattle.console.proofs.desk_text.Statement.{statement}
 use Rattle.console.proofs.desk_text.Tie as tie

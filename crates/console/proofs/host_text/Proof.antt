@@ -1,11 +1,11 @@
--- `console::host_text` meets its contract. Rests on Whole, lists' Slices and lines' Answered.
+-- `console::host_text` meets its contract. Rests on Whole, lists' Slices and replies' Answered.
 use borrow.Author.Needs.{needs}
 use Prim.Native.Nat.{ℕ}
 use native.Mathlib.Omega.{arith}
 use lib.IntN.{ℤ, pos}
 use Rattle.lists.proofs.Slices.{counted}
 use Rattle.printing.specs.Desk.{hostText}
-use Rattle.lines.proofs.Answered.{distinct, short-log, log-text}
+use Rattle.replies.proofs.Answered.{distinct, short-log, log-text}
 use Rattle.console.proofs.Whole.{printed}
 use Rattle.console.proofs.host_text.Statement.{statement}
 use Rattle.console.proofs.host_text.Tie as tie

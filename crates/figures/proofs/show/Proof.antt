@@ -1,11 +1,11 @@
--- `figures::show` is safe: what a run answers fits its buffers. Rests on lists' Slices and lines' Answered.
+-- `figures::show` is safe: what a run answers fits its buffers. Rests on lists' Slices and replies' Answered.
 use borrow.Author.Needs.{needs}
 use mathlib.Core.Path.{sym}
 use Prim.Native.Nat.{ℕ}
 use lib.IntN.{ℤ, pos}
 use lib.Seq.{length-take-le}
 use Rattle.lists.proofs.Slices.{counted}
-use Rattle.lines.proofs.Answered.{few-vertices}
+use Rattle.replies.proofs.Answered.{few-vertices}
 use Rattle.figures.proofs.show.Statement.{statement}
 use Rattle.figures.proofs.show.Tie as tie
 

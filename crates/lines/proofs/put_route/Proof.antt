@@ -1,8 +1,8 @@
--- `lines::put_route` meets its contract. Rests on Answered and text's Written.
+-- `lines::put_route` meets its contract. Rests on Left and text's Written.
 use borrow.Author.Needs.{needs}
 use native.Mathlib.Omega.{arith}
 use Rattle.text.proofs.Written.{nothing, then, wider}
-use Rattle.lines.proofs.Answered.{no-route}
+use Rattle.lines.proofs.Left.{no-route}
 use Rattle.lines.proofs.put_route.Statement.{statement}
 use Rattle.lines.proofs.put_route.Tie as tie
 

@@ -1,4 +1,4 @@
--- `lines::put_row` meets its contract. Rests on LeftOut and text's Written.
+-- `lines::put_row` meets its contract. Rests on Left and text's Written.
 use borrow.Author.Needs.{needs}
 use mathlib.Core.Path.{_≡_}
 use mathlib.Core.Logic.{⊎-elim}
@@ -8,7 +8,7 @@ use mir.Facts.{toZ-ofZ}
 use Rattle.text.specs.Text.{lineOf}
 use Rattle.text.proofs.Written.{then, nothing, wider}
 use Rattle.printing.specs.Texts.{leftOut}
-use Rattle.lines.proofs.LeftOut.{left-out, kept-reached, kept-all}
+use Rattle.lines.proofs.Left.{left-out, kept-reached, kept-all}
 use Rattle.lines.proofs.put_row.Statement.{statement}
 use Rattle.lines.proofs.put_row.Tie as tie
 

@@ -1,12 +1,12 @@
--- `lines::put_log` meets its contract: there is room for every log. Rests on Answered and text's Written.
+-- `replies::put_log` meets its contract: there is room for every log. Rests on Answered and text's Written.
 use borrow.Author.Needs.{needs}
 use mathlib.Core.Path.{sym}
 use Prim.Native.Nat.{_≤_}
 use native.Mathlib.Omega.{arith}
 use Rattle.text.proofs.Written.{wider}
-use Rattle.lines.proofs.Answered.{refused-log}
-use Rattle.lines.proofs.put_log.Statement.{statement}
-use Rattle.lines.proofs.put_log.Tie as tie
+use Rattle.replies.proofs.Answered.{refused-log}
+use Rattle.replies.proofs.put_log.Statement.{statement}
+use Rattle.replies.proofs.put_log.Tie as tie
 
 -- A run's log has at most 8,192 words.
 few : (c : tie.After-known-told) → c .before .answer .given .0 .0 .«log_length» ≤ 8192

@@ -1,11 +1,9 @@
 -- From what a run answers and leaves to the text of its outcome.
 -- Rests on Fits, answers' Told and limits' Numbers.
 use mathlib.Core.Path.{_≡_, refl, sym, ap, _∙_}
-use mathlib.Core.Bool.{Bool, true, false, cond}
-use mathlib.Core.List.{List, []}
+use mathlib.Core.Bool.{Bool}
+use mathlib.Core.List.{List}
 use Prim.Native.Nat.{ℕ, _<_, _≤_}
-use borrow.Author.Tests.{ne-eqb}
-use lib.Dec.{eqb}
 use lib.IntN.{ℤ}
 use lib.ListN.{length, getD}
 use Rattle.answers.specs.declared.Refusal.{Refusal}
@@ -21,10 +19,10 @@ use Rattle.engine.specs.declared.Answer.the-variants.{Ran, NegativeCycle, Refus
 use Rattle.demands.specs.Run.{Lent, refusalOf, verdictOfRun, outcomeBy, outcome}
 use Rattle.engine.specs.Answer.{toldByRun, Met}
 use Rattle.demands.proofs.Refused.{ran-values}
-use Rattle.printing.specs.Texts.{routeText, refusalText, toldText, textOf, toldLog, logText}
-use Rattle.lines.specs.Distinct.{Distinct}
-use Rattle.lines.proofs.Fits as Fits
-use Rattle.lines.proofs.Fits.{log-fits}
+use Rattle.printing.specs.Texts.{refusalText, toldText, textOf, toldLog, logText}
+use Rattle.replies.specs.Distinct.{Distinct}
+use Rattle.replies.proofs.Fits as Fits
+use Rattle.replies.proofs.Fits.{log-fits}
 
 pub refused-text : (r : Refusal) → Apart r → (all : Bool) (h : Header) (ds ps rs : List ℤ)
     → refusalText (r .number) (placeShown (placeOf r)) ≡ toldText all h (refused r) ds ps rs
@@ -33,15 +31,6 @@ refused-text r a all h ds ps rs = simp (a .0, a .1)
 pub refused-log : (r : Refusal) → Apart r → (log : List ℕ)
     → refusalText (r .number) (placeShown (placeOf r)) ≡ toldLog (refused r) log
 refused-log r a log = simp (a .0, a .1)
-
--- There is no line for a route but in method 5.
-pub no-route : (h : Header) → (h .method ≡ 5 → ⊥) → (rs : List ℤ) → routeText h rs ≡ []
-no-route h not-five rs =
-    rw (ne-eqb (h .method) 5 not-five) (or-none (eqb (h .method) 1) (or-none (eqb (h .method) 2) (or-none (eqb (h .method) 3) refl)))
-  where
-    or-none : (b : Bool) {t : List ℕ} → t ≡ [] → cond b [] t ≡ []
-    or-none true e = refl
-    or-none false e = e
 
 -- An answer that tells as the outcome does is told from a run where it is a refusal.
 told-distinct : (request : List ℕ) (lent : Lent) (a : Answer) → toldByRun a ≡ outcome request lent .answer → Distinct a

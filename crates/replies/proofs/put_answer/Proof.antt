@@ -1,12 +1,12 @@
--- `lines::put_answer` meets its contract: there is room for every answer. Rests on Answered and text's Written.
+-- `replies::put_answer` meets its contract: there is room for every answer. Rests on Answered and text's Written.
 use borrow.Author.Needs.{needs}
 use mathlib.Core.Path.{refl, sym}
 use Prim.Native.Nat.{_<_, _≤_}
 use native.Mathlib.Omega.{arith}
 use Rattle.text.proofs.Written.{wider}
-use Rattle.lines.proofs.Answered.{refused-text}
-use Rattle.lines.proofs.put_answer.Statement.{statement}
-use Rattle.lines.proofs.put_answer.Tie as tie
+use Rattle.replies.proofs.Answered.{refused-text}
+use Rattle.replies.proofs.put_answer.Statement.{statement}
+use Rattle.replies.proofs.put_answer.Tie as tie
 
 -- A run has 1 to 32 vertices.
 few : (c : tie.After-known-told)
