@@ -5,7 +5,7 @@ use libc::STDOUT_FILENO;
 
 fn main() {
     // One word more than the longest request: nothing beyond it is read, and the text of a longer input is that of its first 8,208 bytes
-    // (console's `cut`).
+    // (printing's `cut`).
     let mut bytes = [0u8; 8208];
     let size = io::read_full(STDIN_FILENO, &mut bytes);
     // One byte more than `all` has: a longer argument comes back empty, as a missing one does, and both count as none.
