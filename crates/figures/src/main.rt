@@ -1,6 +1,6 @@
 // Larger networks through the engine: 32 yards in every method, 60 lanes in method 1, 128 in method 3, 59 in method 5, and the figures of their
 // runs.
-// Rests on engine and lines; tests/model has the same networks, and expects the same figures.
+// Rests on engine, lines and replies; tests/model has the same networks, and expects the same figures.
 use engine::Answer;
 use engine::Report;
 use libc::STDOUT_FILENO;

@@ -2,7 +2,7 @@
 -- Rests on parents, the certificate and the pigeonhole principle.
 use mathlib.Core.Path.{_≡_, refl, sym, _∙_, ap, subst, fun-ext}
 use mathlib.Core.Logic.{_⊎_, inl, inr, _≢_}
-use mathlib.Core.Bool.{Bool, true, false, cond, true≢false}
+use mathlib.Core.Bool.{Bool, true, false, cond, true≢false, and-eq-true-iff}
 use mathlib.Core.List.{List, [], _∷_}
 use Prim.Native.Nat.{ℕ, zero, suc, _+_, _*_, _≤_, _<_}
 use native.Mathlib.Omega.{arith}
@@ -11,7 +11,7 @@ use borrow.Author.Tests.{ltb-true, ltb-false, eqb-true, le-ltb, eq-eqb, ne-eqb}
 use lib.Dec.{ltb, eqb}
 use lib.IntN.{ℤ, pos, negsuc}
 use lib.Signed.{_≤ℤ_}
-use Rattle.lists.proofs.Test.{by-test, and-both, and-not}
+use Rattle.lists.proofs.Test.{by-test, and-not}
 use Rattle.graph.specs.Walk.{Edge, Chain, total, NegativeCycle}
 use Rattle.graph.specs.Shortest.{Shortest}
 use Rattle.graph.specs.Dijkstra.{tableNetwork, fromVertex, State, begin, nearer, best, who, rowOf, settle, turns}
@@ -24,7 +24,7 @@ use Rattle.graph.proofs.Parents.{Ranked}
 -- ---- the choice
 
 nearer-yes : (b : ℕ) (st : State) (k : ℕ) → nearer b st k ≡ true → (st .dist k < b) × (st .unseen k ≡ true)
-nearer-yes b st k e = let r = and-both (ltb (st .dist k) b) (st .unseen k) e in (ltb-true (st .dist k) b (r .0), r .1)
+nearer-yes b st k e = let r = and-eq-true-iff (ltb (st .dist k) b) (st .unseen k) .0 e in (ltb-true (st .dist k) b (r .0), r .1)
 
 nearer-no : (b : ℕ) (st : State) (k : ℕ) → nearer b st k ≡ false → st .unseen k ≡ true → b ≤ st .dist k
 nearer-no b st k e o =

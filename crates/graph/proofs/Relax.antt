@@ -2,7 +2,7 @@
 -- parents. Rests on the certificate and on parents.
 use mathlib.Core.Path.{_≡_, refl, sym, ap, _∙_}
 use mathlib.Core.Logic.{inl, inr, _≢_}
-use mathlib.Core.Bool.{true, false, _&&_}
+use mathlib.Core.Bool.{true, false, _&&_, and-eq-true-iff}
 use mathlib.Core.List.{[]}
 use Prim.Native.Nat.{ℕ, suc, _*_, _<_, _≤_}
 use native.Mathlib.Omega.{arith}
@@ -10,7 +10,7 @@ use borrow.Author.Tests.{eqb-true, eq-eqb}
 use lib.Dec.{eqb}
 use lib.IntN.{ℤ, pos, negsuc, natAbs, _+ℤ_}
 use lib.Signed.{ltZ, _≤ℤ_, _<ℤ_}
-use Rattle.lists.proofs.Test.{by-test, and-both, and-not}
+use Rattle.lists.proofs.Test.{by-test, and-not}
 use Rattle.graph.specs.Walk.{Edge, Below}
 use Rattle.graph.specs.BellmanFord.{network, numbered, State, start, offer, Within}
 use Rattle.graph.proofs.Int.{arithℤ, sum, abs-add, ltZ-true, ltZ-false, lt-ltZ}
@@ -24,7 +24,7 @@ start-within far s W v = by-test (eqb v s) (λ e. inr (rw e (omega arith))) (λ 
 -- The test that an edge's from-vertex is reached and its offer less than x.
 module _ (edge : ℕ → Edge) (far : ℤ) (i : ℕ) (a : State) (x : ℤ) where
   pub less-yes : (ltZ (a .dist (edge i .from)) far && ltZ (offer edge i a) x) ≡ true → (a .dist (edge i .from) <ℤ far) × (offer edge i a <ℤ x)
-  less-yes e = let r = and-both (ltZ (a .dist (edge i .from)) far) (ltZ (offer edge i a) x) e in (ltZ-true (r .0), ltZ-true (r .1))
+  less-yes e = let r = and-eq-true-iff (ltZ (a .dist (edge i .from)) far) (ltZ (offer edge i a) x) .0 e in (ltZ-true (r .0), ltZ-true (r .1))
 
   pub less-no : (ltZ (a .dist (edge i .from)) far && ltZ (offer edge i a) x) ≡ false → a .dist (edge i .from) <ℤ far → x ≤ℤ offer edge i a
   less-no e h = ltZ-false (and-not (ltZ (a .dist (edge i .from)) far) (ltZ (offer edge i a) x) e (lt-ltZ h))

@@ -1,7 +1,7 @@
 -- Names of cells, a region and a place in it: two names with different regions, written out, are told apart by computation.
 -- A bank laid out in regions that begin at given places. Rests on banks.
 use mathlib.Core.Path.{_≡_, refl, sym, ap, ap₂, _∙_}
-use mathlib.Core.Bool.{Bool, _&&_, true≢false}
+use mathlib.Core.Bool.{Bool, _&&_, true≢false, and-eq-true-iff}
 use mathlib.Core.List.{List, [], _∷_}
 use Prim.Native.Nat.{ℕ, zero, suc, _+_, _<_, _≤_}
 use native.Mathlib.Omega.{arith}
@@ -9,7 +9,7 @@ use borrow.Author.Tests.{eq-eqb, ne-eqb, eqb-true}
 use lib.Dec.{eqb}
 use lib.IntN.{ℤ}
 use lib.ListN.{getD}
-use Rattle.lists.proofs.Test.{by-test, and-both}
+use Rattle.lists.proofs.Test.{by-test}
 use Rattle.plans.specs.Regions.{address, cell}
 use Rattle.methods.proofs.Banks.{Layout}
 
@@ -70,7 +70,7 @@ module _ (z : List ℕ) (count : ℕ) (up : Ascending z count) where
   apart a b h k =
       by-test (same a b)
       (λ e.
-      let (r, i) = and-both (eqb (a .0) (b .0)) (eqb (a .1) (b .1)) e in
+      let (r, i) = and-eq-true-iff (eqb (a .0) (b .0)) (eqb (a .1) (b .1)) .0 e in
       let r = eqb-true _ _ r in
       let i = eqb-true _ _ i in
       rw e (eq-eqb _ _ (ap₂ (λ (r i : ℕ). address z r i) r i)))

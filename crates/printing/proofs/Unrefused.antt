@@ -1,6 +1,6 @@
 -- An answer without a refusal, numbered 0, is that of a request that ran, with verdict 0.
 -- Rests on demand 1 and limits' Numbers.
-use mathlib.Core.Path.{_≡_, refl, sym, ap, _∙_}
+use mathlib.Core.Path.{_≡_, refl, ap}
 use mathlib.Core.Logic.{⊎-elim}
 use mathlib.Core.Bool.{true≢false}
 use mathlib.Core.List.{List}
