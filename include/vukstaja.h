@@ -1,4 +1,4 @@
-/* The engine's four calls, for C: proved in Rattle (crates/exports), linked from libexports.a. docs/CALLING.md says it in full.
+/* The engine's five calls, for C: proved in Rattle (crates/exports), linked from libexports.a. docs/CALLING.md says it in full.
  *
  * What is asked of the caller, since C can't show it: no pointer is null, even where its length is 0; each is aligned for its
  * element type; each buffer has at least as many elements as its length says; no two buffers overlap; and until the call
@@ -56,6 +56,13 @@ void vukstaja_write_plan(const uint64_t *header, size_t header_length,
 /* Tells the lengths of the buffers that a header, whose first word alone is looked at, asks for; with any number but 0, nothing. */
 void vukstaja_sizes(const uint64_t *header, size_t header_length,
                     vukstaja_answer *answer);
+
+/* Converts, in place, distances that were saved before prices came in hundredths. If every word is 2^38, the old mark of an
+ * unreached vertex, or from -31,000,000 to 31,000,000, then 2^38 becomes 2^39 - 1 and every other word a hundredfold; else the
+ * answer is 11 with the lowest place of a word that is neither, and nothing is changed. No words at all are converted with 0.
+ * Convert saved distances once: words without the mark may pass a second time, and would be a hundredfold again. */
+void vukstaja_convert(int64_t *saved, size_t saved_length,
+                      vukstaja_answer *answer);
 
 #ifdef __cplusplus
 }

@@ -33,9 +33,9 @@ The text, line by line; what follows a # and blank lines are passed over:
   row 0 7           method 2: the prices from one yard to each yard, a row for
   row - 0           each yard, yard 0 first; - (or -1) where there is no lane
 
-Prices go from -1000000 to 1000000 in methods 1, 3 and 5, from 0 to 1000000 in
-method 2. Every number is whole, in decimal digits, with - before them if it is
-negative.
+Prices go from -100000000 to 100000000 in methods 1, 3 and 5, from 0 to
+100000000 in method 2. Every number is whole, in decimal digits, with - before
+them if it is negative.
 
 Bad text is answered on standard error: for each bad line a message with the
 file, the line and what was expected there, then one for each thing that is
@@ -174,8 +174,8 @@ RULES = Limits(
     source=Range(0, 31),
     destination=Range(0, 31),
     vertex=Range(0, 31),
-    weight=Range(-1_000_000, 1_000_000),
-    entry=Range(NO_EDGE, 1_000_000, " (-1 or - for no lane)"),
+    weight=Range(-100_000_000, 100_000_000),
+    entry=Range(NO_EDGE, 100_000_000, " (-1 or - for no lane)"),
 )
 
 

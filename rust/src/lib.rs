@@ -30,7 +30,10 @@ use std::error::Error;
 use std::fmt;
 
 /// The distance cell of a vertex that no walk from the source reaches.
-pub const UNREACHED: i64 = 1 << 38;
+pub const UNREACHED: i64 = (1 << 39) - 1;
+
+/// The same in distances that were saved before weights came in hundredths.
+pub const OLD_UNREACHED: i64 = 1 << 38;
 
 /// The parent of the source and of unreached vertices, which fills a route up, too.
 pub const NO_PARENT: i64 = -1;
@@ -75,6 +78,7 @@ extern "C" {
         answer: *mut Numbers,
     );
     fn vukstaja_sizes(header: *const u64, header_len: usize, answer: *mut Numbers);
+    fn vukstaja_convert(saved: *mut i64, saved_len: usize, answer: *mut Numbers);
 }
 
 /// How a request gives its graph, and which plan answers it.
@@ -184,7 +188,7 @@ impl Refusal {
             8 => "the distances, parents or route buffer is too short",
             9 => "the plan has a word that cannot be carried out",
             10 => "the spare bits of a word are not zero",
-            11 => "a weight is outside its range",
+            11 => "a weight or a saved distance is outside its range",
             12 => "the source reaches a cycle of negative weight",
             13 => "an edge leads from a vertex that is not there",
             14 => "an edge leads to a vertex that is not there",
@@ -336,6 +340,41 @@ pub fn sizes(header: &[u64]) -> Result<Sizes, Refusal> {
             parents: parents as usize,
             route: route as usize,
         }),
+        _ => Err(refusal(&answer)),
+    }
+}
+
+/// Converts, in place, distances that were saved before weights came in
+/// hundredths: [`OLD_UNREACHED`] becomes [`UNREACHED`], and every other distance
+/// a hundredfold. A word that is neither the old mark nor from -31,000,000 to
+/// 31,000,000 is refused, with number 11 and the lowest such place, and then no
+/// word is changed.
+///
+/// Convert distances once. Those without the mark may pass a second time, and
+/// would be a hundredfold again.
+///
+/// ```
+/// use vukstaja::{OLD_UNREACHED, UNREACHED};
+///
+/// let mut saved = [0, -5, OLD_UNREACHED];
+/// vukstaja::convert(&mut saved)?;
+/// assert_eq!(saved, [0, -500, UNREACHED]);
+///
+/// let mut saved = [0, OLD_UNREACHED, 31_000_001];
+/// let refusal = vukstaja::convert(&mut saved).unwrap_err();
+/// assert_eq!((refusal.number, refusal.place), (11, Some(2)));
+/// assert_eq!(saved, [0, OLD_UNREACHED, 31_000_001]);
+/// # Ok::<(), vukstaja::Refusal>(())
+/// ```
+pub fn convert(saved: &mut [i64]) -> Result<(), Refusal> {
+    let mut answer = Numbers::default();
+    // SAFETY: the pointer and length come from one live slice, never null;
+    // the exclusive borrow does not overlap, and the library does not keep it.
+    unsafe {
+        vukstaja_convert(saved.as_mut_ptr(), saved.len(), &mut answer);
+    }
+    match answer[0] {
+        0 => Ok(()),
         _ => Err(refusal(&answer)),
     }
 }

@@ -1,7 +1,9 @@
 //! Compares the library with an independent implementation of the rules.
 
 mod chains;
+mod conversion;
 mod generator;
+mod limits;
 mod reference;
 mod shapes;
 
@@ -484,7 +486,7 @@ fn refusals_have_sentences_of_their_own() {
         number: 11,
         place: Some(0),
     };
-    let text = "refused 11: a weight is outside its range (place 0)";
+    let text = "refused 11: a weight or a saved distance is outside its range (place 0)";
     assert_eq!(placed.to_string(), text);
 }
 
@@ -872,7 +874,7 @@ fn requests_at_the_edges() {
         0x0000020000000000,
         0x0000000000000000,
         0x000001FFFFFFFFFF,
-        0x0000034000000000,
+        0x0000037FFFFFFFFF,
         0x00000A0000000000,
         0x7000000000A00000,
         0,
@@ -900,8 +902,8 @@ fn requests_at_the_edges() {
     assert_eq!(solved(&empty), (63, vec![Some(0), None], vec![None, None]));
     let single = vukstaja::solve(&[pack(2, 1, 0, 0), absent]).expect("row 7 runs");
     assert_eq!((single.report.rounds, single.log.len()), (23, 21));
-    assert_eq!(solved(&[lone, edge_word(0, 0, 1_000_000)]), alone);
-    assert_eq!(number(&[lone, edge_word(0, 0, 1_000_001)]), (11, Some(0)));
+    assert_eq!(solved(&[lone, edge_word(0, 0, 100_000_000)]), alone);
+    assert_eq!(number(&[lone, edge_word(0, 0, 100_000_001)]), (11, Some(0)));
     assert_eq!(number(&[pack(1, 33, 0, 0)]), (2, None));
     assert_eq!(number(&[pack(1, 1, 129, 0)]), (3, None));
     assert_eq!(number(&[]), (1, None));
@@ -938,7 +940,7 @@ fn requests_of_method_3() {
     assert_eq!((empty.report.rounds, empty.log.len()), (9, 12));
     let lone = pack(3, 1, 1, 0);
     assert_eq!(number(&[lone, edge_word(0, 0, -1)]), (12, None));
-    assert_eq!(number(&[lone, edge_word(0, 0, 1_000_001)]), (11, Some(0)));
+    assert_eq!(number(&[lone, edge_word(0, 0, 100_000_001)]), (11, Some(0)));
     // An edge is compared with the one before it, after its weight.
     let unsorted = |heads: [u64; 3], weight: i64| {
         let words = heads.map(|head| edge_word(0, head, weight));
@@ -946,8 +948,8 @@ fn requests_of_method_3() {
     };
     assert_eq!(unsorted([1, 0, 0], 5), (15, Some(1)));
     assert_eq!(unsorted([0, 2, 1], 5), (15, Some(2)));
-    assert_eq!(unsorted([0, 2, 1], 1_000_001), (11, Some(0)));
-    let dear = [edge_word(0, 1, 5), edge_word(0, 0, -1_000_001)];
+    assert_eq!(unsorted([0, 2, 1], 100_000_001), (11, Some(0)));
+    let dear = [edge_word(0, 1, 5), edge_word(0, 0, -100_000_001)];
     assert_eq!(
         number(&[&[pack(3, 2, 2, 0)], &dear[..]].concat()),
         (11, Some(1))
@@ -987,7 +989,7 @@ fn requests_of_method_5() {
     assert_eq!(route(4, &chain, &[3, 0]), Err((5, None)));
     assert_eq!(route(4, &chain, &[4]), Err((16, None)));
     assert_eq!(route(4, &chain, &[1 << 63]), Err((16, None)));
-    let dear = [edge_word(0, 1, 5), edge_word(0, 1, 1_000_001)];
+    let dear = [edge_word(0, 1, 5), edge_word(0, 1, 100_000_001)];
     assert_eq!(route(4, &dear, &[4]), Err((11, Some(1))));
     let empty = vukstaja::solve(&[pack(5, 1, 0, 0), 0]).expect("no edges run");
     assert_eq!((empty.report.rounds, empty.log.len()), (2, 10));

@@ -1,5 +1,5 @@
-/* The four calls from C: the printed request of the rules, its sizes, its plan, the plan run from outside, requests of
- * methods 3 and 5, and refusals. */
+/* The five calls from C: the printed request of the rules, its sizes, its plan, the plan run from outside, requests of
+ * methods 3 and 5, saved distances converted, and refusals. */
 #include <inttypes.h>
 #include <stdio.h>
 #include <stdlib.h>
@@ -111,14 +111,36 @@ static void run_written_plan(void)
     give_back(&lent);
 }
 
+/* What the call leaves: distances that it refuses stay as they were. */
+static void convert(const char *call, int64_t *saved, size_t length)
+{
+    vukstaja_answer answer;
+    vukstaja_convert(saved, length, &answer);
+    print_answer(call, answer);
+    printf("saved:");
+    for (size_t v = 0; v < length; v++)
+        printf(" %" PRId64, saved[v]);
+    printf("\n");
+}
+
+/* Twice: converted distances have no longer the old mark of an unreached vertex, 2^38. */
+static void convert_saved(void)
+{
+    int64_t saved[] = {0, -5, 31000000, -31000000, 274877906944};
+    int64_t too_far[] = {0, 31000001, -31000001};
+    convert("convert", saved, 5);
+    convert("convert again", saved, 5);
+    convert("a saved distance of 31,000,001", too_far, 3);
+}
+
 static void be_refused(void)
 {
-    uint64_t request[] = {0x1000010000100000, 0x00000000000F4241};
+    uint64_t request[] = {0x1000010000100000, 0x0000000005F5E101};
     const uint64_t unknown[] = {0x0000010000000000};
     struct buffers lent = made_for(request[0]);
     vukstaja_answer answer;
     run(request, 2, &lent, &answer);
-    print_answer("a weight of 1,000,001", answer);
+    print_answer("a weight of 100,000,001", answer);
     request[1] = 0x0001000000000000;
     run(request, 2, &lent, &answer);
     print_answer("an edge to vertex 1 of 1", answer);
@@ -160,6 +182,7 @@ int main(void)
     run_written_plan();
     run_request(sorted, 4);
     run_request(routed, 6);
+    convert_saved();
     be_refused();
     be_refused_unsorted();
     be_refused_destination();

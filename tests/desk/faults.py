@@ -30,7 +30,7 @@ SPARE_BIT = 1 << 32
 # The faults of a word in the order in which they are told: number, right, wrong.
 # A lane that is not sorted has a to-yard of 0 after a lane to yard 1.
 LANE = ((10, 0, 0x8000 << 32), (13, 1 << 56, 2 << 56),
-        (14, TO_YARD_1, 2 * TO_YARD_1), (11, 1_000_000, 1_000_001))
+        (14, TO_YARD_1, 2 * TO_YARD_1), (11, 100_000_000, 100_000_001))
 ENTRY = ((10, 0, 1 << 63), (11, 0xFFFFFFFF, 0xFFFFFFFE))
 SORTED_LANE = (*LANE, (15, 0, -TO_YARD_1))
 DESTINATIONS = 0, 1, 2, 3, 1 << 32, 1 << 63, (1 << 64) - 1

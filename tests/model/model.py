@@ -8,10 +8,10 @@ place and never made longer or shorter.
 
 from collections import namedtuple
 
-FAR = 1 << 38
+FAR = (1 << 39) - 1
 MOST_YARDS = 32
 MOST_LANES = 128
-HIGHEST_PRICE = 1_000_000
+HIGHEST_PRICE = 100_000_000
 PLAN_PLACES = 16_777_216
 DESK_LOG_WORDS = 8192
 DESK_CELLS = 1190

@@ -31,7 +31,7 @@ MOST_WORD = (1 << 64) - 1
 
 PLAN_OF_ONE_YARD = [int(word, 16) for word in (
     "1000010000000000 0000020000000000 0000000000000000 000001FFFFFFFFFF"
-    " 0000034000000000 00000A0000000000 7000000000A00000").split()]
+    " 0000037FFFFFFFFF 00000A0000000000 7000000000A00000").split()]
 PRINTED_REQUEST = bytes.fromhex("100002000010000000010000FFFFFFFB")
 PRINTED_LINES = ["1 2 1 0 31 0", "0 0 -", "1 -5 0"]
 
@@ -134,10 +134,10 @@ def check_edge_method_2(checks):
 
 def check_edge_limits(checks):
     """Rows 8 and 9."""
-    checks.equal(network.run(self_lane(1_000_000)).answer,
-                 RequestRan(18, 18, 0), "row 8, 1,000,000")
-    checks.equal(network.run(self_lane(1_000_001)).answer, Refusal(11, 0),
-                 "row 8, 1,000,001")
+    checks.equal(network.run(self_lane(100_000_000)).answer,
+                 RequestRan(18, 18, 0), "row 8, 100,000,000")
+    checks.equal(network.run(self_lane(100_000_001)).answer, Refusal(11, 0),
+                 "row 8, 100,000,001")
     for header, number in ((Header(1, 33, 0, 0), 2), (Header(2, 33, 0, 0), 2),
                            (Header(1, 1, 129, 0), 3)):
         checks.equal(answer_to([model.join_header(header)]), Refusal(number),
@@ -180,7 +180,7 @@ def check_passes(checks):
     checks.equal(before.parents, [-1, 0, 1], "the same lanes in method 1")
     checks.equal(network.run(Network(3, 1, 0, [])).answer,
                  RequestRan(9, 12, 0), "method 3, one yard and no lane")
-    for price, verdict in ((-1, 1), (0, 0), (1_000_000, 0)):
+    for price, verdict in ((-1, 1), (0, 0), (100_000_000, 0)):
         finished = network.run(Network(3, 1, 0, [(0, 0, price)]))
         checks.equal(finished.answer, RequestRan(25, 24, verdict),
                      f"method 3, a lane of {price} to its own yard")
@@ -217,7 +217,7 @@ def check_routes(checks):
                          shown + [-1] * (2 - len(shown)), f"route of {case}")
     checks.equal(network.run(Network(5, 1, 0, [], 0)).answer,
                  RequestRan(2, 10, 0), "method 5, one yard and no lane")
-    for price, verdict in ((-1, 1), (0, 0), (1_000_000, 0)):
+    for price, verdict in ((-1, 1), (0, 0), (100_000_000, 0)):
         finished = network.run(Network(5, 1, 0, [(0, 0, price)], 0))
         checks.equal((finished.answer, finished.route),
                      (RequestRan(18, 23, verdict), []),
@@ -231,7 +231,7 @@ def check_fields(checks):
     for header in (Header(1, 32, 128, 31), Header(15, *[(1 << 20) - 1] * 3)):
         checks.equal(model.split_header(model.join_header(header)), header,
                      "header fields")
-    for price in (-1 << 31, -1_000_000, -1, 0, 1_000_000, (1 << 31) - 1):
+    for price in (-1 << 31, -100_000_000, -1, 0, 100_000_000, (1 << 31) - 1):
         lane = Lane(255, 1, 65_535, price)
         entry = TableEntry((1 << 32) - 1, price)
         checks.equal(model.split_lane(model.join_lane(lane)), lane,
@@ -450,10 +450,10 @@ def climb_lanes(checks, method, enough, unsorted, destinations):
     headers = [Header(15, 33, 129, 33), Header(method, 33, 129, 33),
                Header(method, 2, 129, 2), Header(method, 2, 2, 2),
                Header(method, 2, 2, 1)]
-    dear, right = Lane(0, 1, 0, 1_000_001), Lane(0, 1, 0, 1_000_000)
-    second = [Lane(2, 2, 1, -1_000_001), Lane(2, 2, 0, -1_000_001),
-              Lane(0, 2, 0, -1_000_001), Lane(0, 0, 0, -1_000_001),
-              Lane(0, 0, 0, -1_000_000), *unsorted.values()]
+    dear, right = Lane(0, 1, 0, 100_000_001), Lane(0, 1, 0, 100_000_000)
+    second = [Lane(2, 2, 1, -100_000_001), Lane(2, 2, 0, -100_000_001),
+              Lane(0, 2, 0, -100_000_001), Lane(0, 0, 0, -100_000_001),
+              Lane(0, 0, 0, -100_000_000), *unsorted.values()]
     lanes = [[dear], [dear, second[0]], *([right, lane] for lane in second)]
     inputs = [[model.join_lane(lane) for lane in row] for row in lanes]
     refusals = [Refusal(11, 0), Refusal(10, 1), Refusal(13, 1), Refusal(14, 1),
@@ -469,7 +469,7 @@ def check_order_lanes(checks):
     """The refusals of methods 1, 3 and 5, in their order."""
     climb_lanes(checks, 1, Lent(20, 85, 2, 2, 0), {}, ())
     climb_lanes(checks, 3, Lent(36, 86, 2, 2, 0),
-                {Refusal(15, 1): Lane(0, 1, 0, -1_000_000)}, ())
+                {Refusal(15, 1): Lane(0, 1, 0, -100_000_000)}, ())
     for wrong in (2, 1 << 63, MOST_WORD):
         climb_lanes(checks, 5, Lent(24, 105, 2, 2, 1), {}, (wrong, 1))
 
@@ -516,9 +516,9 @@ def check_order_method_2(checks):
     headers = [Header(0, 0, 1, 0), Header(2, 0, 1, 0), Header(2, 2, 1, 2),
                Header(2, 2, 0, 2), Header(2, 2, 0, 1)]
     tables = [[(0, 5)], [(0, -2), (0, 5), (1, -2), (0, -1)],
-              [(0, -1), (0, 5), (1, 1_000_001), (0, -1)],
-              [(0, -1), (0, 5), (0, 1_000_001), (0, -1)],
-              [(0, -1), (0, 5), (0, 1_000_000), (0, -1)]]
+              [(0, -1), (0, 5), (1, 100_000_001), (0, -1)],
+              [(0, -1), (0, 5), (0, 100_000_001), (0, -1)],
+              [(0, -1), (0, 5), (0, 100_000_000), (0, -1)]]
     inputs = [[model.join_table_entry(TableEntry(*entry)) for entry in row]
               for row in tables]
     climb(checks, headers, inputs, Lent(20, 67, 2, 2, 0),
@@ -533,10 +533,10 @@ def check_desk(checks):
         "1000020000200000" + "0001000000000001" + "00": "refused 5",
         "10002100002000": "refused 1", "1000210000200000" + "00": "refused 2",
         "1000200000100000" + "0000000000000000": "refused 7",
-        "1000010000100000" + "00000000000F4241": "refused 11 0",
-        "1000010000100000" + "01010001000F4241": "refused 10 0",
-        "1000010000100000" + "01010000000F4241": "refused 13 0",
-        "1000010000100000" + "00010000000F4241": "refused 14 0",
+        "1000010000100000" + "0000000005F5E101": "refused 11 0",
+        "1000010000100000" + "0101000105F5E101": "refused 10 0",
+        "1000010000100000" + "0101000005F5E101": "refused 13 0",
+        "1000010000100000" + "0001000005F5E101": "refused 14 0",
         "1000010000100000" + "00000000FFFFFFFF": "refused 12",
     }
     for request, line in printed.items():
@@ -597,7 +597,7 @@ def check_desk_method_5(checks):
         "5000030000300000" + lanes + "00" * 9: "refused 5",
         "5000030000300000" + lanes + "0000000000000003": "refused 16",
         "5000030000300000" + lanes + "FFFFFFFFFFFFFFFF": "refused 16",
-        "5000010000100000" + "00000000000F4241" + "F" * 16: "refused 11 0",
+        "5000010000100000" + "0000000005F5E101" + "F" * 16: "refused 11 0",
         "5000010000100000" + "00000000FFFFFFFF" + "F" * 16: "refused 16",
         "5000010000100000" + "00000000FFFFFFFF" + "0" * 16: "refused 12",
     }
@@ -768,7 +768,8 @@ def check_replay_ends(checks):
 
 def random_lanes(rng, n, m, kind):
     """Random lanes of one of four kinds of prices."""
-    lowest, highest = ((-4, 9), (0, 2), (-1_000_000, 1_000_000), (-1, 4))[kind]
+    lowest, highest = ((-4, 9), (0, 2), (-100_000_000, 100_000_000),
+                       (-1, 4))[kind]
     return [(rng.randrange(n), rng.randrange(n), rng.randint(lowest, highest))
             for _ in range(m)]
 
@@ -811,7 +812,7 @@ def random_chain(rng):
 
 def random_table(rng, n, kind):
     """Random lanes of method 2, of one of four kinds of prices."""
-    highest = (2, 9, 100, 1_000_000)[kind]
+    highest = (2, 9, 100, 100_000_000)[kind]
     share = rng.choice((0.2, 0.5, 1.0))
     return [(u, v, rng.randint(0, highest)) for u in range(n) for v in range(n)
             if rng.random() < share]

@@ -29,14 +29,14 @@ EDGE_1_PLAN = [
     0x0000020000000000,
     0x0000000000000000,
     0x000001FFFFFFFFFF,
-    0x0000034000000000,
+    0x0000037FFFFFFFFF,
     0x00000A0000000000,
     0x7000000000A00000,
 ]
 EDGE_1_LOG = EDGE_1_PLAN + [0]
 
 SET, COPY, ADD, LESS, EQUAL, BOTH, MOVEIF, OPEN = range(8)
-FAR = 2**38
+FAR = 2**39 - 1
 
 
 def word(first, second=0, third=0, fourth=0):
@@ -208,12 +208,12 @@ class RequestWords(unittest.TestCase):
         self.assertEqual(self.words("method 2\nyards 2\nsource 0\nrow - -\nrow - -1\n"), expected)
 
     def test_table_goes_by_rows(self):
-        expected = [0x2000020000000001, 0, 7, 0x00000000FFFFFFFF, 1_000_000]
-        self.assertEqual(self.words("method 2\nyards 2\nsource 1\nrow 0 7\nrow - 1000000\n"), expected)
+        expected = [0x2000020000000001, 0, 7, 0x00000000FFFFFFFF, 100_000_000]
+        self.assertEqual(self.words("method 2\nyards 2\nsource 1\nrow 0 7\nrow - 100000000\n"), expected)
 
     def test_ends_of_the_ranges(self):
-        lanes = "lane 31 0 -1000000\n" * 64 + "lane 0 31 1000000\n" * 64
-        expected = [word(1, 32, 128, 31)] + [0x1F000000FFF0BDC0] * 64 + [0x001F0000000F4240] * 64
+        lanes = "lane 31 0 -100000000\n" * 64 + "lane 0 31 100000000\n" * 64
+        expected = [word(1, 32, 128, 31)] + [0x1F000000FA0A1F00] * 64 + [0x001F000005F5E100] * 64
         self.assertEqual(self.words("method 1\nyards 32\nsource 31\n" + lanes), expected)
 
     def test_sorted_lanes_stay_in_their_order(self):
@@ -251,8 +251,8 @@ class RequestWords(unittest.TestCase):
         self.assertEqual(self.words(yards_33, True), [word(1, 33)])
         lanes_129 = "method 1\nyards 1\nsource 0\n" + "lane 0 0 0\n" * 129
         self.assertEqual(self.words(lanes_129, True), [word(1, 1, 129)] + [0] * 129)
-        price_over = "method 1\nyards 1\nsource 0\nlane 0 0 1000001\n"
-        self.assertEqual(self.words(price_over, True), [word(1, 1, 1), 1_000_001])
+        price_over = "method 1\nyards 1\nsource 0\nlane 0 0 100000001\n"
+        self.assertEqual(self.words(price_over, True), [word(1, 1, 1), 100_000_001])
         all_wrong = "method 15\nyards 0\nsource 1048575\nlane 255 255 -2147483648\n"
         self.assertEqual(self.words(all_wrong, True), [0xF0000000001FFFFF, 0xFFFF000080000000])
 
@@ -268,7 +268,7 @@ class RequestWords(unittest.TestCase):
         for method in (1, 3, 5) * 20:
             n = chance.randint(1, 32)
             edges = [
-                (chance.randrange(n), chance.randrange(n), chance.randint(-1_000_000, 1_000_000))
+                (chance.randrange(n), chance.randrange(n), chance.randint(-100_000_000, 100_000_000))
                 for _ in range(chance.randint(0, 128))
             ]
             if method == 3:
@@ -324,12 +324,12 @@ class RequestMessages(WithFolder):
             "method 1\nyards 2\nsource 2\n": "line 3: source 2 is out of range, expected 0 to 1",
             self.HEADER_1 + "lane 2 0 0\n": "line 4: from-yard 2 is out of range, expected 0 to 1",
             self.HEADER_1 + "lane 0 -1 0\n": "line 4: to-yard -1 is out of range, expected 0 to 1",
-            self.HEADER_1 + "lane 0 1 1e3\n": "line 4: price `1e3` is no whole number, expected -1000000 to 1000000",
-            self.HEADER_1 + "lane 0 1 1.5\n": "line 4: price `1.5` is no whole number, expected -1000000 to 1000000",
-            self.HEADER_1 + "lane 0 1 1000001\n": "line 4: price 1000001 is out of range, expected -1000000 to 1000000",
-            self.HEADER_1 + "lane 0 1 -\n": "line 4: price `-` is no whole number, expected -1000000 to 1000000",
+            self.HEADER_1 + "lane 0 1 1e3\n": "line 4: price `1e3` is no whole number, expected -100000000 to 100000000",
+            self.HEADER_1 + "lane 0 1 1.5\n": "line 4: price `1.5` is no whole number, expected -100000000 to 100000000",
+            self.HEADER_1 + "lane 0 1 100000001\n": "line 4: price 100000001 is out of range, expected -100000000 to 100000000",
+            self.HEADER_1 + "lane 0 1 -\n": "line 4: price `-` is no whole number, expected -100000000 to 100000000",
             self.HEADER_1 + "lane 0 1 " + "9" * 5000: f"line 4: price {'9' * 5000} is out of range, "
-            "expected -1000000 to 1000000",
+            "expected -100000000 to 100000000",
             self.HEADER_1 + "lane 0 1 0\n" * 131: "line 132: one lane too many, expected at most 128 lanes",
             self.HEADER_1 + "row 0 0\n": "line 4: `row` in method 1, expected `lane FROM-YARD TO-YARD PRICE`",
             self.HEADER_2 + "lane 0 1 0\n": "line 4: `lane` in method 2, expected `row PRICE PRICE ..`",
@@ -338,10 +338,10 @@ class RequestMessages(WithFolder):
             self.HEADER_2 + "row 0 0\n" * 4: "line 6: one row too many, expected 2, one for each yard",
             self.HEADER_2 + "row 0 0\n": "after line 4: too few rows (1), expected 2, one for each yard",
             self.HEADER_2 + "row 0 -2\nrow 0 0\n": "line 4: price -2 is out of range, "
-            "expected -1 to 1000000 (-1 or - for no lane)",
+            "expected -1 to 100000000 (-1 or - for no lane)",
             self.HEADER_2 + "row 0 0\nrow 0 x\n": "line 5: price `x` is no whole number, "
-            "expected -1 to 1000000 (-1 or - for no lane)",
-            self.HEADER_3 + "lane 0 1 1000001\n": "line 4: price 1000001 is out of range, expected -1000000 to 1000000",
+            "expected -1 to 100000000 (-1 or - for no lane)",
+            self.HEADER_3 + "lane 0 1 100000001\n": "line 4: price 100000001 is out of range, expected -100000000 to 100000000",
             self.HEADER_3 + "lane 0 1 0\n" * 131: "line 132: one lane too many, expected at most 128 lanes",
             self.HEADER_3 + "row 0 0 0\n": "line 4: `row` in method 3, expected `lane FROM-YARD TO-YARD PRICE`",
             "method 6\nyards 1\nsource 0\n": "line 1: method 6 is out of range, expected 1, 2, 3 or 5",
@@ -393,7 +393,7 @@ class RequestMessages(WithFolder):
     def test_every_bad_line_in_order(self):
         text = "method 1\nlane 0 1 1.5\nyards 2\nlane 2 x y\n\nlane 0 1 5\nsource 7 # far\nlanes 0 0 0\nlane 0\n"
         expected = [
-            "line 2: price `1.5` is no whole number, expected -1000000 to 1000000",
+            "line 2: price `1.5` is no whole number, expected -100000000 to 100000000",
             "line 4: from-yard 2 is out of range, expected 0 to 1",
             "line 7: source 7 is out of range, expected 0 to 1",
             "line 8: unknown word `lanes`, expected one of method, yards, source, destination, lane, row",
@@ -409,7 +409,7 @@ class RequestMessages(WithFolder):
         # A lane that is bad in another way is told that first, and compared with no lane while its to-yard is not known.
         lanes = "lane 0 2 0\nlane 0 1 x\nlane 0 9 0\nlane 0 1 0\nlane 0 2\nlane 0 0 0\nlane 1 2 0\nlane 3 1 0\nlane 1 0 0\n"
         expected = [
-            "line 5: price `x` is no whole number, expected -1000000 to 1000000",
+            "line 5: price `x` is no whole number, expected -100000000 to 100000000",
             "line 6: to-yard 9 is out of range, expected 0 to 2",
             "line 8: wrong number of values after `lane` (2), expected `lane FROM-YARD TO-YARD PRICE`",
             "line 11: from-yard 3 is out of range, expected 0 to 2",
@@ -432,13 +432,13 @@ class RequestMessages(WithFolder):
         self.assertEqual(self.complaints(""), [f"after line 0: {message}" for message in empty])
         expected = [
             "line 1: to-yard 32 is out of range, expected 0 to 31",
-            "line 2: price -2 is out of range, expected -1 to 1000000 (-1 or - for no lane)",
+            "line 2: price -2 is out of range, expected -1 to 100000000 (-1 or - for no lane)",
             f"after line 3: {lacks('method', 'method NUMBER')}",
             f"after line 3: {lacks('yards', 'yards NUMBER')}",
         ]
         self.assertEqual(self.complaints("lane 0 32 0\nrow -2 -1 -\nsource 31\n"), expected)
         expected = [
-            "line 4: price `x` is no whole number, expected -1 to 1000000 (-1 or - for no lane)",
+            "line 4: price `x` is no whole number, expected -1 to 100000000 (-1 or - for no lane)",
             "after line 5: too few rows (2), expected 3, one for each yard",
         ]
         self.assertEqual(self.complaints("method 2\nyards 3\nsource 2\nrow x 0 0\nrow 0 - 0\n"), expected)
@@ -446,9 +446,9 @@ class RequestMessages(WithFolder):
     def test_too_many_and_bad_lines(self):
         lanes = "lane 0 1 0\n" * 127 + "lane 0 1 x\n" * 3
         expected = [
-            "line 131: price `x` is no whole number, expected -1000000 to 1000000",
+            "line 131: price `x` is no whole number, expected -100000000 to 100000000",
             "line 132: one lane too many, expected at most 128 lanes",
-            "line 133: price `x` is no whole number, expected -1000000 to 1000000",
+            "line 133: price `x` is no whole number, expected -100000000 to 100000000",
         ]
         self.assertEqual(self.complaints(self.HEADER_1 + lanes), expected)
         expected = [
@@ -509,7 +509,7 @@ class RequestCommand(WithFolder):
 
     def test_bad_lines_of_standard_input(self):
         expected = (
-            b"request.py: standard input: line 4: price `1.5` is no whole number, expected -1000000 to 1000000\n"
+            b"request.py: standard input: line 4: price `1.5` is no whole number, expected -100000000 to 100000000\n"
             b"request.py: standard input: line 5: to-yard 2 is out of range, expected 0 to 1\n"
         )
         text = b"method 1\nyards 2\nsource 0\nlane 0 1 1.5\nlane 0 2 1\n"
@@ -561,7 +561,7 @@ class Listing(WithFolder):
             "      1  0000020000000000  SET [2] <- 0",
             "      2  0000000000000000  SET [0] <- 0",
             "      3  000001FFFFFFFFFF  SET [1] <- -1",
-            "      4  0000034000000000  SET [3] <- 274877906944",
+            "      4  0000037FFFFFFFFF  SET [3] <- 549755813887",
             "      5  00000A0000000000  SET [10] <- 0",
             "      6  7000000000A00000  OPEN [10]",
             "      7  0000000000000000  published 0",
@@ -579,8 +579,8 @@ class Listing(WithFolder):
             "      1  0000030000000000  SET [3] <- 0",
             "      2  0000010000000000  SET [1] <- 0",
             "      3  000002FFFFFFFFFF  SET [2] <- -1",
-            "      4  0000044000000000  SET [4] <- 274877906944",
-            "      5  0000064000000000  SET [6] <- 274877906944",
+            "      4  0000047FFFFFFFFF  SET [4] <- 549755813887",
+            "      5  0000067FFFFFFFFF  SET [6] <- 549755813887",
             "      6  00000E0000000000  SET [14] <- 0",
             "      7  000000FFFFFFFFFF  SET [0] <- -1",
             "      8  30000B0000400001  LESS [11] <- [4] < [1]",
@@ -595,12 +595,12 @@ class Listing(WithFolder):
         expected = [
             "      0  5000020000000001  header method=5 yards=2 lanes=0 source=1",
             "      1  0000040000000000  SET [4] <- 0",
-            "      2  0000004000000000  SET [0] <- 274877906944",
+            "      2  0000007FFFFFFFFF  SET [0] <- 549755813887",
             "      3  000002FFFFFFFFFF  SET [2] <- -1",
             "      4  0000050000000001  SET [5] <- 1",
             "      5  0000010000000000  SET [1] <- 0",
             "      6  000003FFFFFFFFFF  SET [3] <- -1",
-            "      7  0000064000000000  SET [6] <- 274877906944",
+            "      7  0000067FFFFFFFFF  SET [6] <- 549755813887",
             "      8  00000D0000000000  SET [13] <- 0",
             "      9  10000F0000400000  COPY [15] <- [4]",
             "     10  1000100000500000  COPY [16] <- [5]",

@@ -129,7 +129,7 @@ fn refused_lanes() {
     );
     send(
         b"a yard not there before a price",
-        &[0x1000020000100000, 0x00020000000F4241],
+        &[0x1000020000100000, 0x0002000005F5E101],
         16,
     );
 }
@@ -142,17 +142,17 @@ fn refused_prices() {
     );
     send(
         b"a price before a spare bit",
-        &[0x1000020000200000, 0x00010000000F4241, 0x0001000100000000],
+        &[0x1000020000200000, 0x0001000005F5E101, 0x0001000100000000],
         24,
     );
     send(
-        b"a price of 1,000,001",
-        &[0x1000010000100000, 0x00000000000F4241],
+        b"a price of 100,000,001",
+        &[0x1000010000100000, 0x0000000005F5E101],
         16,
     );
     send(
-        b"a price of -1,000,001",
-        &[0x1000010000100000, 0x00000000FFF0BDBF],
+        b"a price of -100,000,001",
+        &[0x1000010000100000, 0x00000000FA0A1EFF],
         16,
     );
 }
@@ -174,8 +174,8 @@ fn refused_entries() {
         16,
     );
     send(
-        b"a price of 1,000,001 in a table",
-        &[0x2000010000000000, 0x00000000000F4241],
+        b"a price of 100,000,001 in a table",
+        &[0x2000010000000000, 0x0000000005F5E101],
         16,
     );
 }
@@ -208,7 +208,7 @@ fn refused_order() {
     );
     send(
         b"a price before the order",
-        &[0x3000020000200000, 0x0001000000000005, 0x00000000000F4241],
+        &[0x3000020000200000, 0x0001000000000005, 0x0000000005F5E101],
         24,
     );
     send(
@@ -295,8 +295,8 @@ fn runs_of_method_1() {
     send(b"one yard, no lane", &[0x1000010000000000], 8);
     send(b"one yard, a lane of 0", &[0x1000010000100000, 0], 16);
     send(
-        b"one yard, a lane of 1,000,000",
-        &[0x1000010000100000, 0x00000000000F4240],
+        b"one yard, a lane of 100,000,000",
+        &[0x1000010000100000, 0x0000000005F5E100],
         16,
     );
     send(
@@ -320,13 +320,13 @@ fn runs_of_method_1() {
             0x1000030000300000,
             0x01020000FFFFFFFF,
             0x02010000FFFFFFFF,
-            0x00010000000F4240,
+            0x0001000005F5E100,
         ],
         32,
     );
     send(
-        b"a rebate of 1,000,000, from source 1",
-        &[0x1000020000100001, 0x01000000FFF0BDC0],
+        b"a rebate of 100,000,000, from source 1",
+        &[0x1000020000100001, 0x01000000FA0A1F00],
         16,
     );
     let mut lanes = [0u64; 103];
@@ -444,7 +444,7 @@ fn runs_of_method_3() {
         b"a loss circle that the source reaches, method 3",
         &[
             0x3000030000300000,
-            0x00010000000F4240,
+            0x0001000005F5E100,
             0x02010000FFFFFFFF,
             0x01020000FFFFFFFF,
         ],
@@ -550,7 +550,7 @@ fn runs_of_method_5() {
         b"a loss circle that the source reaches, method 5",
         &[
             0x5000030000300000,
-            0x00010000000F4240,
+            0x0001000005F5E100,
             0x01020000FFFFFFFF,
             0x02010000FFFFFFFF,
             2,

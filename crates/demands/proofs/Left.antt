@@ -1,14 +1,15 @@
 -- What a header's plan leaves of cells that intake has laid, whichever the method: the verdict, least totals and their parents.
 -- Rests on the methods and on Sources.
 use mathlib.Core.Path.{_≡_, refl, ap}
-use mathlib.Core.Logic.{_↔_, Iff·trans, Iff·not, _≢_}
+use mathlib.Core.Logic.{_↔_, inl, inr, Iff·trans, Iff·not, _≢_}
 use mathlib.Core.Bool.{cond}
 use mathlib.Core.List.{List, [], _∷_}
 use mathlib.Core.Option.{some}
 use Prim.Native.Nat.{ℕ, zero, suc, _+_, _*_, _<_, _≤_}
 use native.Mathlib.Omega.{arith}
-use lib.IntN.{ℤ, pos, negsuc, natAbs}
+use lib.IntN.{ℤ, pos, negsuc, natAbs, _+ℤ_}
 use lib.ListN.{length, getD, drop}
+use lib.Signed.{_<ℤ_}
 use Rattle.fields.specs.Fields.{bitsOf}
 use Rattle.machine.specs.Effect.{isZero, cellAt}
 use Rattle.machine.specs.Log.{cellsAfter}
@@ -19,6 +20,7 @@ use Rattle.plans.specs.Method2 as Plan2
 use Rattle.plans.specs.Plan.{Accepted, cellsOf, instructionsOf, planOf, Kind, distances, parents, route, resultsOf, verdictCell, published}
 use Rattle.plans.proofs.Headers.{header, by-method}
 use Rattle.limits.specs.Word.{destinationIn}
+use Rattle.limits.specs.WithinLimits.{OneOf}
 use Rattle.graph.specs.Walk.{Edge, Network, NegativeCycle, Below}
 use Rattle.graph.specs.Shortest.{Naming, Distances, Parents, Shortest}
 use Rattle.graph.specs.BellmanFord.{network, numbered}
@@ -30,13 +32,13 @@ use Rattle.graph.proofs.Dijkstra.{no-negative-cycle}
 use Rattle.graph.proofs.Synchronous.{synchronous-carried}
 use Rattle.graph.proofs.Route.{route-carried}
 use Rattle.graph.proofs.SameEdges.{cycle-over, shortest-over}
-use Rattle.methods.specs.Bank.{Exact}
+use Rattle.methods.specs.Bank.{Summed, Exact}
 use Rattle.methods.specs.Edges as Edges
 use Rattle.methods.specs.Method1 as Method1
 use Rattle.methods.specs.Method2 as Method2
 use Rattle.methods.specs.Method3 as Method3
 use Rattle.methods.specs.Method5 as Method5
-use Rattle.methods.proofs.Rooms.{today}
+use Rattle.methods.proofs.Rooms.{wide}
 use Rattle.methods.proofs.OverEdges.{ends-below}
 use Rattle.methods.proofs.Headers.{header1, header2, header3, header5}
 use Rattle.demands.specs.Run.{openedAt, verdictOf}
@@ -75,8 +77,16 @@ pub record Left (h : Header) (ws : List ℕ) (start left : List ℤ) : Type 0 wh
   pub besides : verdictOf h left ≡ 0 → besidesOf h ws (λ k i. cellAt left (resultsOf h k .first + i))
   pub rest : (k : ℕ) → cellsOf h ≤ k → cellAt left k ≡ cellAt start k
   pub exact : Exact (instructionsOf h) start
+  pub below-far : OneOf (1 ∷ 3 ∷ 5 ∷ []) (h .method) → Summed (λ x w. x ≢ far → (x +ℤ w) <ℤ far) (instructionsOf h) start
   -- The opened word is the verdict.
   pub opened : openedAt (verdictCell h) left ≡ published (verdictCell h) (verdictOf h left)
+
+-- Method 2 is none of those over edges.
+two-not : ¬ OneOf (1 ∷ 3 ∷ 5 ∷ []) 2
+two-not (inl e) = omega (arith, e)
+two-not (inr (inl e)) = omega (arith, e)
+two-not (inr (inr (inl e))) = omega (arith, e)
+two-not (inr (inr (inr e))) = e
 
 -- ---- the flag
 
@@ -195,6 +205,7 @@ module _ (h : Header) (ws : List ℕ) (at : Edges.Places) (is : OverEdges h ws a
         besides = rw (is .verdict) (λ z. besides (none z));
         rest = rw (is .count) (o .rest);
         exact = o .exact;
+        below-far = λ over. o .below-far;
         opened = rw (is .verdict) (ap (λ w. w ∷ []) (found .word));
       }
 
@@ -208,14 +219,14 @@ left =
     (λ h. (ws : List ℕ) (start : List ℤ) → Given h ws start → Left h ws start (cellsAfter (drop 1 (planOf h)) start))
     (λ n m source a ws start g.
     let h = header 1 n m source in
-    let o = header1 h a start mostWeight today (edgeOf ws) refl (g .one refl) in
+    let o = header1 h a start mostWeight wide (edgeOf ws) refl (g .one refl) in
     over-edges h ws (Method1.places n m)
     (search (refl, arith))
     (g .one refl) o (λ none. tt))
     (λ n source a ws start g.
     let net = Entered n ws in
     let cells = cell (Plan2.starts n) in
-    let o = header2 (header 2 n 0 source) a start mostWeight today (tableOf n ws) refl (g .two refl) in
+    let o = header2 (header 2 n 0 source) a start mostWeight wide (tableOf n ws) refl (g .two refl) in
     let same = g .same refl in
     let no-cycle : ¬ CycleFrom net (source ∷ []) =
     Iff·not (only-source net source) .0
@@ -236,13 +247,14 @@ left =
       besides = λ e. tt;
       rest = o .rest;
       exact = o .exact;
+      below-far = λ over. absurd (two-not over);
       opened = refl;
     })
     (λ n m source a ws start g.
     let h = header 3 n m source in
     let at = Method3.places n m in
     let end = cellsAfter (drop 1 (planOf h)) start in
-    let (o, passes) = header3 h a start mostWeight today (edgeOf ws) refl (g .sorted refl) (g .three refl) in
+    let (o, passes) = header3 h a start mostWeight wide (edgeOf ws) refl (g .sorted refl) (g .three refl) in
     over-edges h ws at
     (search (refl, arith))
     (g .three refl) o
@@ -254,7 +266,7 @@ left =
     let h = header 5 n m source in
     let at = Method5.places n m in
     let end = cellsAfter (drop 1 (planOf h)) start in
-    let (o, routed) = header5 h a start mostWeight today (edgeOf ws) (destinationIn h ws) refl (g .five refl) (g .aimed refl) (g .there refl) in
+    let (o, routed) = header5 h a start mostWeight wide (edgeOf ws) (destinationIn h ws) refl (g .five refl) (g .aimed refl) (g .there refl) in
     over-edges h ws at
     (search (refl, arith))
     (g .five refl) o

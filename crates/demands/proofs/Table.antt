@@ -24,13 +24,19 @@ tableOf n ws u v = natAbs (orFar (weightOf (getD ws (u * n + v) 0)))
 
 -- -1, or from 0 to the most.
 abbrev pub Range : ℤ → Type 0
-Range z = (z ≡ negsuc 0) ⊎ ((pos 0 ≤ℤ z) × (z ≤ℤ pos 1000000))
+Range z = (z ≡ negsuc 0) ⊎ ((pos 0 ≤ℤ z) × (z ≤ℤ pos mostWeight))
 
-most : (n : ℕ) → Range (pos n) → n ≤ 1000000
-most n = ⊎-elim (λ (e : pos n ≡ negsuc 0). absurd (pos-ne-negsuc n 0 e)) (λ p. leb→le n 1000000 (p .1 .le))
+most : (n : ℕ) → Range (pos n) → n ≤ mostWeight
+most n = ⊎-elim (λ (e : pos n ≡ negsuc 0). absurd (pos-ne-negsuc n 0 e)) (λ p. leb→le n mostWeight (p .1 .le))
 
 none-lower : (n : ℕ) → Range (negsuc (suc n)) → ⊥
 none-lower n = ⊎-elim (λ (e : negsuc (suc n) ≡ negsuc 0). omega (arith, ap natAbs e)) (λ p. p .0 .le)
+
+-- Either way within the most.
+pub in-range : (z : ℤ) → Range z → natAbs z ≤ mostWeight
+in-range (pos n) r = most n r
+in-range (negsuc zero) r = omega arith
+in-range (negsuc (suc n)) r = absurd (none-lower n r)
 
 -- It is laid as a natural number: a weight, or FAR.
 pub natural : (z : ℤ) → Range z → (orFar z ≡ pos (natAbs (orFar z))) × ((natAbs (orFar z) ≤ mostWeight) ⊎ (natAbs (orFar z) ≡ natAbs far))

@@ -1,5 +1,5 @@
--- Intake supplies to each method what it asks, for every request within the limits; and so what the run of such a request leaves.
--- Rests on the laws of limits.
+-- Intake supplies to each method what it asks, for every request within the limits; and so what the run of such a request leaves. The weights of its
+-- network are within the limit. Rests on the laws of limits.
 use mathlib.Core.Path.{_≡_, refl, _∙_}
 use mathlib.Core.Logic.{_⊎_, inl, inr}
 use mathlib.Core.List.{List}
@@ -13,20 +13,23 @@ use Rattle.machine.specs.Effect.{cellAt}
 use Rattle.plans.specs.declared.Header.{Header}
 use Rattle.plans.specs.Limits.{far, mostWeight}
 use Rattle.plans.specs.Plan.{cellsOf}
+use Rattle.plans.proofs.Headers.{by-method}
 use Rattle.limits.specs.Word.{destinationIn, weightOf}
 use Rattle.limits.specs.WithinLimits.{headerIn, wordsIn, WithinLimits}
 use Rattle.limits.proofs.Sizes.{cells-one, cells-two, cells-three, cells-five}
 use Rattle.limits.proofs.WithinLimits.{accepted-in, cells-in, edge-in, sorted-in, entry-in, destination-in}
 use Rattle.intake.proofs.Laid.{EdgesLaid, edges-one, edges-three, edges-five, entry-laid, destination-laid}
+use Rattle.graph.specs.Walk.{Edge}
+use Rattle.graph.specs.BellmanFord.{network}
 use Rattle.methods.specs.Edges as Edges
 use Rattle.methods.specs.Method1 as Method1
 use Rattle.methods.specs.Method2 as Method2
 use Rattle.methods.specs.Method3 as Method3
 use Rattle.methods.specs.Method5 as Method5
 use Rattle.demands.specs.Run.{Lent, lengthsOf, startOf, cellsLeft}
-use Rattle.demands.specs.Network.{edgeOf}
+use Rattle.demands.specs.Network.{edgeOf, networkOf}
 use Rattle.demands.proofs.Intake.{long}
-use Rattle.demands.proofs.Table.{tableOf, Range, natural, same-edges}
+use Rattle.demands.proofs.Table.{tableOf, Range, in-range, natural, same-edges}
 use Rattle.demands.proofs.Left.{Left, left}
 
 module _ (request : List ℕ) (lent : Lent)
@@ -113,3 +116,20 @@ module _ (request : List ℕ) (lent : Lent)
         sorted = λ e i. sorted-in request _ w i e;
         same = λ e. same-edges (h .vertices) ws (entry e);
       })
+
+  -- The network's weights, whichever the method.
+  pub weights-most : (e : Edge) → networkOf h ws e → natAbs (e .weight) ≤ mostWeight
+  unfolding networkOf
+  weights-most =
+      by-method
+      (λ h. ((h .method ≡ 1) ⊎ (h .method ≡ 3) ⊎ (h .method ≡ 5) → Edges.Limited mostWeight (edgeOf ws) (h .vertices) (h .edges))
+      → (h .method ≡ 2 → (u j : ℕ) → u < h .vertices → j < h .vertices → Range (weightOf (getD ws (u * h .vertices + j) 0)))
+      → (e : Edge) → networkOf h ws e → natAbs (e .weight) ≤ mostWeight)
+      (λ n m source a edges entries. of-row n m (edges (inl refl)))
+      (λ n source a edges entries e real. rw (real .weighs) (in-range _ (entries refl (e .from) (e .to) (real .from-there) (real .to-there))))
+      (λ n m source a edges entries. of-row n m (edges (inr (inl refl))))
+      (λ n m source a edges entries. of-row n m (edges (inr (inr refl))))
+      h (accepted-in _ _ w) limited entry
+    where
+      of-row : (n m : ℕ) → Edges.Limited mostWeight (edgeOf ws) n m → (e : Edge) → network (edgeOf ws) m e → natAbs (e .weight) ≤ mostWeight
+      of-row n m edges e (i, l, is) = rw is (edges .weight-most i l)

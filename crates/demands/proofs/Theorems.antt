@@ -137,6 +137,7 @@ demand3 request lent =
       lent-cells = λ ran. lent-cells request lent;
       copied-results = λ ran t k i l. rw (cells-are request lent ran) (result-copied request lent ran t k i l);
       exact = λ ran. leaves request lent ran .exact;
+      below-far = λ ran. leaves request lent ran .below-far;
     }
 
 -- Foreign plans: demands 1 and 3 of the runner.

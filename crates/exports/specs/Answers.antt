@@ -1,5 +1,5 @@
--- Answers for callers that know only numbers (docs/CALLING.md), and what calls leave in lent buffers: the outcome that `run`, `run_plan` and
--- `write_plan` promise, by the same definitions. Rests on those.
+-- Answers for callers that know only numbers (docs/CALLING.md), and what calls leave in lent buffers: the outcome that `run`, `run_plan`,
+-- `write_plan` and `convert` promise, by the same definitions. Rests on those.
 use mathlib.Core.Path.{_≡_}
 use mathlib.Core.List.{List, [], _∷_}
 use mathlib.Core.Option.{Option, none, some}
@@ -10,6 +10,7 @@ use Rattle.answers.specs.Told.{Told}
 use Rattle.plans.specs.Plan.{Kind}
 use Rattle.planner.specs.Written.{planRefusal, planWords, answerOf, bufferOf}
 use Rattle.runner.specs.Runner.{PlanOutcome}
+use Rattle.saved.specs.Saved.{ConversionOutcome}
 use Rattle.demands.specs.Run.{Outcome}
 
 -- Whether there is a place, and the place.
@@ -38,3 +39,7 @@ pub record LeftByPlan (o : PlanOutcome) (answer : List ℕ) (cells : List ℤ) (
 pub record LeftByWriting (header buffer answer after : List ℕ) : Type 0 where
   pub answers : answer ≡ numbersOf (answerOf (planRefusal header (length buffer)) (planWords header))
   pub leaves : after ≡ bufferOf (planRefusal header (length buffer)) (planWords header) buffer
+
+pub record LeftByConversion (o : ConversionOutcome) (answer : List ℕ) (saved : List ℤ) : Type 0 where
+  pub answers : answer ≡ numbersOf (o .answer)
+  pub words : saved ≡ o .saved

@@ -1,10 +1,11 @@
-// The engine for programs in other languages: four calls on plain numbers, with the answer as eight numbers (docs/CALLING.md).
-// Rests on answers, engine, requests, runner and planner.
+// The engine for programs in other languages: five calls on plain numbers, with the answer as eight numbers (docs/CALLING.md).
+// Rests on answers, engine, requests, runner, planner and saved.
 use answers::Refusal;
 use engine::Answer;
 use planner::Written;
 use requests::Asked;
 use runner::PlanAnswer;
+use saved::Conversion;
 ghost use mathlib.Core.Path.{_≡_};
 ghost use Rattle.answers.specs.Told.{refused};
 ghost use Rattle.plans.specs.Plan.{byKind};
@@ -12,9 +13,10 @@ ghost use Rattle.planner.specs.Written.{toldByWriting};
 ghost use Rattle.limits.specs.Sizes.{sizesTold};
 ghost use Rattle.requests.specs.Sizes.{toldBySizes};
 ghost use Rattle.runner.specs.Runner.{toldByPlan, planOutcome};
+ghost use Rattle.saved.specs.Saved.{toldByConversion, conversionOutcome};
 ghost use Rattle.demands.specs.Run.{outcome};
 ghost use Rattle.engine.specs.Answer.{toldByRun};
-ghost use Rattle.exports.specs.Answers.{numbersOf, LeftByRun, LeftByPlan, LeftByWriting};
+ghost use Rattle.exports.specs.Answers.{numbersOf, LeftByRun, LeftByPlan, LeftByWriting, LeftByConversion};
 
 fn refusal_numbers(r: Refusal) -> [u64; 8]
     ensures { λ a. ⌜ a ≡ numbersOf (refused r) ⌝ }
@@ -71,6 +73,15 @@ fn sizes_numbers(answer: Asked) -> [u64; 8]
     }
 }
 
+fn conversion_numbers(answer: Conversion) -> [u64; 8]
+    ensures { λ a. ⌜ a ≡ numbersOf (toldByConversion answer) ⌝ }
+{
+    match answer {
+        Conversion::Converted => [0; 8],
+        Conversion::Refused(refusal) => refusal_numbers(refusal),
+    }
+}
+
 // A request run.
 #[no_mangle]
 pub extern "C" fn vukstaja_run(
@@ -114,4 +125,12 @@ pub extern "C" fn vukstaja_sizes(header: &[u64], answer: &mut [u64; 8])
     ensures { λ _. ⌜ now (answer .exit) ≡ numbersOf (sizesTold (now (header .entry))) ⌝ }
 {
     *answer = sizes_numbers(requests::sizes_needed(header));
+}
+
+// Saved distances converted to finer money.
+#[no_mangle]
+pub extern "C" fn vukstaja_convert(saved: &mut [i64], answer: &mut [u64; 8])
+    ensures { λ _. ⌜ LeftByConversion (conversionOutcome (now (saved .entry))) (now (answer .exit)) (now (saved .exit)) ⌝ }
+{
+    *answer = conversion_numbers(saved::convert(saved));
 }

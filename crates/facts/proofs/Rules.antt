@@ -28,6 +28,9 @@ use Rattle.intake.specs.Intake.{stripsOf, sourceOf, laid, copied, startingCells
 use Rattle.intake.proofs.Facts as Intake
 use Rattle.demands.specs.Run.{Outcome, verdictOf, outcome}
 use Rattle.demands.specs.Network.{sourcesOf}
+use Rattle.saved.specs.Saved.{convertible, converted, savedRefusal, conversionOutcome}
+use Rattle.saved.proofs.Facts as Saved
+use Rattle.comparisons.proofs.Facts as Comparisons
 use Rattle.facts.specs.Rules.{Rules}
 
 -- Outcomes are the same where their parts are.
@@ -35,7 +38,7 @@ same : (o p : Outcome) → o .answer ≡ p .answer → o .cells ≡ p .cells →
 same o p a c l r = λ i. record { answer = a i; cells = c i; log = l i; results = fun-ext r i }
 
 pub rules : Rules
-unfolding signedOf bitsOf bit wrapAdd both pick perform packed packedSet decodeAt zerosKept present admissibleAt carry logged cellsAfter logFrom logOf withoutPublishedFrom withoutPublished sumOf greatestFrom decodeAll depthOf chargeOf flat instructions Method1.plan Method2.plan Method3.plan Method5.plan instructionsOf planOf cellsOf resultsOf lengthOf headerRefusal weightOf wordCountOf logLengthOf verdictCell sizesRefusal inRange edgeRefusal sortedRefusal entryRefusal wordRefusal wordsRefusal lastRefusal requestRefusal stripsOf sourceOf laid copied startingCells firstBad logSize runnerRefusal planOutcome verdictOf outcome sourcesOf
+unfolding signedOf bitsOf bit wrapAdd both pick perform packed packedSet decodeAt zerosKept present admissibleAt carry logged cellsAfter logFrom logOf withoutPublishedFrom withoutPublished sumOf greatestFrom decodeAll depthOf chargeOf flat instructions Method1.plan Method2.plan Method3.plan Method5.plan instructionsOf planOf cellsOf resultsOf lengthOf headerRefusal weightOf wordCountOf logLengthOf verdictCell sizesRefusal inRange edgeRefusal sortedRefusal entryRefusal wordRefusal wordsRefusal lastRefusal requestRefusal stripsOf sourceOf laid copied startingCells firstBad logSize runnerRefusal planOutcome verdictOf outcome sourcesOf convertible converted savedRefusal conversionOutcome
 rules =
     record {
       answers = Answers.facts;
@@ -46,6 +49,9 @@ rules =
       limits = Limits.facts;
       intake = Intake.facts;
       runner = Runner.facts;
+      saved = Saved.facts;
+      comparisons = Comparisons.facts;
+      finer = refl;
       one = (refl, refl, refl, refl);
       two = refl;
       three = refl;

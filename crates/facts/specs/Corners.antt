@@ -49,14 +49,14 @@ pub record Corners : Type 0 where
   -- 6. Method 2, n = 2, no edges: distances 0 and FAR, 63 rounds.
   pub no-edges :
       (outcome (0x2000020000000000 ∷ 0xFFFFFFFF ∷ 0xFFFFFFFF ∷ 0xFFFFFFFF ∷ 0xFFFFFFFF ∷ []) (zeros 20 67 2) .results distances
-      ≡ pos 0 ∷ far ∷ [])
+      ≡ pos 0 ∷ pos 549755813887 ∷ [])
       × (outcome (0x2000020000000000 ∷ 0xFFFFFFFF ∷ 0xFFFFFFFF ∷ 0xFFFFFFFF ∷ 0xFFFFFFFF ∷ []) (zeros 20 67 2) .answer ≡ ran 63 67)
   -- 7. Method 2, n = 1: 21 words, 23 rounds.
   pub one-vertex : (length (planOf (headerOf 0x2000010000000000)) ≡ 21)
       × (outcome (0x2000010000000000 ∷ 0 ∷ []) (zeros 12 21 1) .answer ≡ ran 23 21)
-  -- 8. Row 3's edge at 1,000,000 runs, 18 rounds; at 1,000,001 it is 11, place 0.
-  pub weights : (loopOf 1000000 .answer ≡ ran 18 18)
-      × (loopOf 1000001 .answer ≡ record { number = 11; place = some 0; values = [] })
+  -- 8. Row 3's edge at 100,000,000 runs, 18 rounds; at 100,000,001 it is 11, place 0.
+  pub weights : (loopOf 100000000 .answer ≡ ran 18 18)
+      × (loopOf 100000001 .answer ≡ record { number = 11; place = some 0; values = [] })
   -- 9. n = 33 is 2; m = 129 is 3.
   pub limits : (outcome (0x1000210000000000 ∷ []) (zeros 0 0 0) .answer .number ≡ 2)
       × (outcome (0x1000010008100000 ∷ []) (zeros 0 0 0) .answer .number ≡ 3)

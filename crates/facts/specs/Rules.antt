@@ -21,6 +21,9 @@ use Rattle.runner.specs.Facts as Runner
 use Rattle.runner.specs.Runner.{planOutcome}
 use Rattle.demands.specs.Run.{Lent, outcome}
 use Rattle.demands.specs.Network.{sourcesOf}
+use Rattle.saved.specs.Saved.{conversionOutcome}
+use Rattle.saved.specs.Facts as Saved
+use Rattle.comparisons.specs.Facts as Comparisons
 
 -- Buffers lent with nines: cells, log words, distances, parents, and two places for a route.
 abbrev pub nines : (cells log distances parents : ℕ) → Lent
@@ -51,6 +54,12 @@ pub record Rules : Type 0 where
   pub intake : Intake.Facts
   -- "Who caused it": foreign plans
   pub runner : Runner.Facts
+  -- "A lent buffer of saved distances is converted" (document 02, ask 7), and requests in hundredths
+  pub saved : Saved.Facts
+  pub comparisons : Comparisons.Facts
+  -- The printed request's distances, 0 and -5, converted are those of its run with the lane at -500.
+  pub finer : conversionOutcome (pos 0 ∷ negsuc 4 ∷ []) .saved
+      ≡ outcome (0x1000020000100000 ∷ 0x00010000FFFFFE0C ∷ []) (nines 17 48 2 2) .results distances
   -- "1: header missing, or method not 1 or 2", and "refusal 1 admits" methods 3 and 5 (document 02, asks 3 and 5).
   pub one : (requestAnswered [] 17 48 2 2 ≡ byNumber 1)
       × (requestAnswered (0x4000020000100000 ∷ 0 ∷ []) 17 48 2 2 ≡ byNumber 1)
@@ -78,7 +87,7 @@ pub record Rules : Type 0 where
   pub ten : (requestAnswered (0x1000020000100000 ∷ 0x0000000100000000 ∷ []) 17 48 2 2 ≡ atPlace 10 0)
       × (requestAnswered (0x2000010000000000 ∷ 0x0000000100000000 ∷ []) 12 21 1 1 ≡ atPlace 10 0)
   -- "11, with place: price outside its range."
-  pub eleven : requestAnswered (0x1000020000100000 ∷ 0x00000000FFF0BDBF ∷ []) 17 48 2 2 ≡ atPlace 11 0
+  pub eleven : requestAnswered (0x1000020000100000 ∷ 0x00000000FA0A1EFF ∷ []) 17 48 2 2 ≡ atPlace 11 0
   -- "12: loss circle", a lane from 0 to 0 at -1. "A request's run, 12 included, answers its rounds, log length and verdict"; without results.
   pub twelve : (requestAnswered (0x1000010000100000 ∷ 0x00000000FFFFFFFF ∷ []) 14 18 1 1 ≡ record { number = 12; place = none; values = 18 ∷ 18 ∷ 1 ∷ [] })
       × (outcome (0x1000010000100000 ∷ 0x00000000FFFFFFFF ∷ []) (nines 14 18 1 1) .results distances ≡ pos 9 ∷ [])
@@ -90,19 +99,19 @@ pub record Rules : Type 0 where
   pub fourteen : (requestAnswered (0x1000020000100000 ∷ 0x0002000000000000 ∷ []) 17 48 2 2 ≡ atPlace 14 0)
       × (requestAnswered (0x1000020000200000 ∷ 0 ∷ 0x0002000000000000 ∷ []) 20 85 2 2 ≡ atPlace 14 1)
   -- "15 when a lane's to-yard is below the one before it, with the place of that lane, tested after its price" (document 02, ask 3): lanes to 1
-  -- and to 0 of 2 yards, and the second with a price of 1,000,001.
+  -- and to 0 of 2 yards, and the second with a price of 100,000,001.
   pub fifteen : (requestAnswered (0x3000020000200000 ∷ 0x0001000000000000 ∷ 0x0000000000000000 ∷ []) 36 86 2 2 ≡ atPlace 15 1)
-      × (requestAnswered (0x3000020000200000 ∷ 0x0001000000000000 ∷ 0x00000000000F4241 ∷ []) 36 86 2 2 ≡ atPlace 11 1)
+      × (requestAnswered (0x3000020000200000 ∷ 0x0001000000000000 ∷ 0x0000000005F5E101 ∷ []) 36 86 2 2 ≡ atPlace 11 1)
   -- "16, without place, when the destination is not below n, after all lanes": 2 of 2 yards; and with a lane from there.
   pub sixteen : (requestAnswered (0x5000020000100000 ∷ 0 ∷ 2 ∷ []) 21 63 2 2 ≡ byNumber 16)
       × (requestAnswered (0x5000020000100000 ∷ 0x0200000000000000 ∷ 2 ∷ []) 21 63 2 2 ≡ atPlace 13 0)
   -- "the order is spare bits, from, to, price": both yards bad, spare bits and from-yard, to-yard and price, all four.
   pub fault-order : (requestAnswered (0x1000020000100000 ∷ 0x0202000000000000 ∷ []) 17 48 2 2 ≡ atPlace 13 0)
       × (requestAnswered (0x1000020000100000 ∷ 0x0200000100000000 ∷ []) 17 48 2 2 ≡ atPlace 10 0)
-      × (requestAnswered (0x1000020000100000 ∷ 0x00020000000F4241 ∷ []) 17 48 2 2 ≡ atPlace 14 0)
-      × (requestAnswered (0x1000020000100000 ∷ 0x02020001000F4241 ∷ []) 17 48 2 2 ≡ atPlace 10 0)
+      × (requestAnswered (0x1000020000100000 ∷ 0x0002000005F5E101 ∷ []) 17 48 2 2 ≡ atPlace 14 0)
+      × (requestAnswered (0x1000020000100000 ∷ 0x0202000105F5E101 ∷ []) 17 48 2 2 ≡ atPlace 10 0)
   -- "any other refusal only its number and [..] its place, and changes no lent buffer"
-  pub refuses : outcome (0x1000010000100000 ∷ 0x00000000FFF0BDBF ∷ []) (nines 14 18 1 1)
+  pub refuses : outcome (0x1000010000100000 ∷ 0x00000000FA0A1EFF ∷ []) (nines 14 18 1 1)
       ≡ record {
         answer = atPlace 11 0;
         cells = replicate 14 (pos 9);
@@ -113,7 +122,7 @@ pub record Rules : Type 0 where
   pub untouched : outcome (0x1000010000000000 ∷ []) (nines 12 9 2 2)
       ≡ record {
         answer = record { number = 0; place = none; values = 2 ∷ 8 ∷ 0 ∷ [] };
-        cells = (pos 0 ∷ negsuc 0 ∷ pos 0 ∷ pos 274877906944 ∷ []) ++ replicate 7 (pos 0) ++ (pos 9 ∷ []);
+        cells = (pos 0 ∷ negsuc 0 ∷ pos 0 ∷ pos 549755813887 ∷ []) ++ replicate 7 (pos 0) ++ (pos 9 ∷ []);
         log = smallestPlan ++ (0 ∷ 9 ∷ []);
         results = byKind (pos 0 ∷ pos 9 ∷ []) (negsuc 0 ∷ pos 9 ∷ []) (pos 9 ∷ pos 9 ∷ []);
       }
@@ -122,14 +131,14 @@ pub record Rules : Type 0 where
       ≡ record {
         answer = record { number = 0; place = none; values = 9 ∷ 21 ∷ 0 ∷ [] };
         cells =
-            (pos 0 ∷ pos 274877906944 ∷ negsuc 0 ∷ negsuc 0 ∷ pos 0 ∷ pos 1 ∷ pos 274877906944 ∷ pos 1 ∷ pos 1 ∷ [])
+            (pos 0 ∷ pos 549755813887 ∷ negsuc 0 ∷ negsuc 0 ∷ pos 0 ∷ pos 1 ∷ pos 549755813887 ∷ pos 1 ∷ pos 1 ∷ [])
             ++ (pos 0 ∷ pos 0 ∷ pos 1 ∷ pos 0 ∷ pos 0 ∷ pos 1 ∷ pos 0 ∷ pos 1 ∷ negsuc 0 ∷ pos 9 ∷ []);
         log =
-            (0x5000020000000000 ∷ 0x0000040000000000 ∷ 0x0000000000000000 ∷ 0x000002FFFFFFFFFF ∷ 0x0000050000000001 ∷ 0x0000014000000000 ∷ [])
-            ++ (0x000003FFFFFFFFFF ∷ 0x0000064000000000 ∷ 0x00000D0000000000 ∷ 0x10000F0000400000 ∷ 0x1000100000500000 ∷ [])
+            (0x5000020000000000 ∷ 0x0000040000000000 ∷ 0x0000000000000000 ∷ 0x000002FFFFFFFFFF ∷ 0x0000050000000001 ∷ 0x0000017FFFFFFFFF ∷ [])
+            ++ (0x000003FFFFFFFFFF ∷ 0x0000067FFFFFFFFF ∷ 0x00000D0000000000 ∷ 0x10000F0000400000 ∷ 0x1000100000500000 ∷ [])
             ++ (0x1000070000E00000 ∷ 0x1000080000700000 ∷ 0x40000B0000800004 ∷ 0x6000110000B00002 ∷ 0x6000070000B0000F ∷ [])
             ++ (0x40000B0000800005 ∷ 0x6000110000B00003 ∷ 0x6000070000B00010 ∷ 0x7000000000D00000 ∷ 0 ∷ 9 ∷ []);
-        results = byKind (pos 0 ∷ pos 274877906944 ∷ pos 9 ∷ []) (negsuc 0 ∷ negsuc 0 ∷ pos 9 ∷ []) (negsuc 0 ∷ pos 9 ∷ []);
+        results = byKind (pos 0 ∷ pos 549755813887 ∷ pos 9 ∷ []) (negsuc 0 ∷ negsuc 0 ∷ pos 9 ∷ []) (negsuc 0 ∷ pos 9 ∷ []);
       }
   -- The sources that distances are from: the header's, in every method.
   pub sources : (sourcesOf (headerOf 0x1000200008000007) ≡ 7 ∷ [])

@@ -98,7 +98,7 @@ le-or-lt a b = by-test (ltZ b a) (λ e. inr (ltZ-true e)) (λ e. inl (ltZ-false 
 
 -- ---- absolute values
 
-abs : (a : ℤ) → natAbs a ≡ up a + dn a
+pub abs : (a : ℤ) → natAbs a ≡ up a + dn a
 abs (pos n) = omega arith
 abs (negsuc n) = omega arith
 

@@ -16,3 +16,5 @@ pub mod SameEdges
 pub mod Distances
 pub mod Marks
 pub mod Route
+pub mod Product
+pub mod Reweighed

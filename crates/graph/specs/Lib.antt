@@ -6,3 +6,4 @@ pub mod BellmanFord
 pub mod Jacobi
 pub mod Dijkstra
 pub mod Route
+pub mod Reweighed

@@ -57,20 +57,20 @@ pub record Facts : Type 0 where
       × (sourceOf (headerOf 0x500020000800001F) 488 ≡ field 128 Whole)
       × (sourceOf (headerOf 0x500020000800001F) 489 ≡ nothing)
       × (sourceOf (headerOf 0x5000010000000000) 11 ≡ field 0 Whole)
-  -- "Intake fills the first 3m; the rest start at 0": lanes 1 to 0 at -5 and 0 to 1 at 1,000,000 laid into 22 lent cells, two more than needed.
-  pub start1 : startingCells (headerOf 0x1000020000200000) (0x01000000FFFFFFFB ∷ 0x00010000000F4240 ∷ []) (replicate 22 (pos 9))
-      ≡ (pos 1 ∷ pos 0 ∷ pos 0 ∷ pos 1 ∷ negsuc 4 ∷ pos 1000000 ∷ []) ++ replicate 14 (pos 0) ++ (pos 9 ∷ pos 9 ∷ [])
-  -- Ask 3: "Intake fills from, to and price; the rest start at 0": lanes 1 to 0 at -5 and 0 to 1 at 1,000,000, of 36 cells, and one more.
-  pub start3 : startingCells (headerOf 0x3000020000200000) (0x01000000FFFFFFFB ∷ 0x00010000000F4240 ∷ []) (replicate 37 (pos 9))
-      ≡ (pos 1 ∷ pos 0 ∷ pos 0 ∷ pos 0 ∷ pos 1 ∷ negsuc 4 ∷ pos 1000000 ∷ []) ++ replicate 29 (pos 0) ++ (pos 9 ∷ [])
+  -- "Intake fills the first 3m; the rest start at 0": lanes 1 to 0 at -5 and 0 to 1 at 100,000,000 laid into 22 lent cells, two more than needed.
+  pub start1 : startingCells (headerOf 0x1000020000200000) (0x01000000FFFFFFFB ∷ 0x0001000005F5E100 ∷ []) (replicate 22 (pos 9))
+      ≡ (pos 1 ∷ pos 0 ∷ pos 0 ∷ pos 1 ∷ negsuc 4 ∷ pos 100000000 ∷ []) ++ replicate 14 (pos 0) ++ (pos 9 ∷ pos 9 ∷ [])
+  -- Ask 3: "Intake fills from, to and price; the rest start at 0": lanes 1 to 0 at -5 and 0 to 1 at 100,000,000, of 36 cells, and one more.
+  pub start3 : startingCells (headerOf 0x3000020000200000) (0x01000000FFFFFFFB ∷ 0x0001000005F5E100 ∷ []) (replicate 37 (pos 9))
+      ≡ (pos 1 ∷ pos 0 ∷ pos 0 ∷ pos 0 ∷ pos 1 ∷ negsuc 4 ∷ pos 100000000 ∷ []) ++ replicate 29 (pos 0) ++ (pos 9 ∷ [])
   -- Ask 5: the same lanes and the destination 1, of 24 cells, and one more.
-  pub start5 : startingCells (headerOf 0x5000020000200000) (0x01000000FFFFFFFB ∷ 0x00010000000F4240 ∷ 1 ∷ []) (replicate 25 (pos 9))
-      ≡ (pos 1 ∷ pos 0 ∷ pos 0 ∷ pos 1 ∷ negsuc 4 ∷ pos 1000000 ∷ [])
+  pub start5 : startingCells (headerOf 0x5000020000200000) (0x01000000FFFFFFFB ∷ 0x0001000005F5E100 ∷ 1 ∷ []) (replicate 25 (pos 9))
+      ≡ (pos 1 ∷ pos 0 ∷ pos 0 ∷ pos 1 ∷ negsuc 4 ∷ pos 100000000 ∷ [])
       ++ replicate 14 (pos 0)
       ++ (pos 1 ∷ pos 0 ∷ pos 0 ∷ pos 0 ∷ pos 9 ∷ [])
   -- "Z takes the last word, the whole 64 bits": a number of 32 bits and more, and the highest bit, which no request that runs has.
   pub whole : (laid (0x0123456789ABCDEF ∷ []) (field 0 Whole) ≡ pos 0x0123456789ABCDEF)
       × (laid (0xFFFFFFFFFFFFFFFF ∷ []) (field 0 Whole) ≡ negsuc 0)
   -- "Intake writes the prices to U, FAR for -1; the rest start at 0."
-  pub start2 : startingCells (headerOf 0x2000020000000000) (0 ∷ 0x00000000FFFFFFFF ∷ 0x00000000000F4240 ∷ 7 ∷ []) (replicate 22 (pos 9))
-      ≡ (pos 0 ∷ pos 274877906944 ∷ pos 1000000 ∷ pos 7 ∷ []) ++ replicate 16 (pos 0) ++ (pos 9 ∷ pos 9 ∷ [])
+  pub start2 : startingCells (headerOf 0x2000020000000000) (0 ∷ 0x00000000FFFFFFFF ∷ 0x0000000005F5E100 ∷ 7 ∷ []) (replicate 22 (pos 9))
+      ≡ (pos 0 ∷ pos 549755813887 ∷ pos 100000000 ∷ pos 7 ∷ []) ++ replicate 16 (pos 0) ++ (pos 9 ∷ pos 9 ∷ [])

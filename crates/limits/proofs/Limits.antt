@@ -18,7 +18,7 @@ use Rattle.answers.specs.declared.Refusal.{Refusal}
 use Rattle.answers.specs.Refusal.{plain, placed, orElse}
 use Rattle.answers.proofs.Unmet.{first-append}
 use Rattle.plans.specs.declared.Header.{Header}
-use Rattle.plans.specs.Limits.{byMethod, isIn, methods}
+use Rattle.plans.specs.Limits.{byMethod, isIn, methods, mostWeight, leastWeight}
 use Rattle.plans.specs.Plan.{Accepted, wordCountOf, cellsOf, Kind, byKind, resultsOf, lengthOf, verdictCell}
 use Rattle.plans.proofs.EachKind.{each-kind, every-kind}
 use Rattle.plans.proofs.Headers.{header, by-method}
@@ -151,15 +151,15 @@ public-agrees h words lent =
 
 -- ---- a word
 
-between : (z : ℤ) → T (leZ (negsuc 999999) z && leZ z (pos 1000000)) ↔ ((negsuc 999999 ≤ℤ z) × (z ≤ℤ pos 1000000))
+between : (z : ℤ) → T (leZ leastWeight z && leZ z (pos mostWeight)) ↔ ((leastWeight ≤ℤ z) × (z ≤ℤ pos mostWeight))
 between z = (
-  λ t. let (least, most) = and-yes (leZ (negsuc 999999) z) _ t in (leZ-yes least, leZ-yes most),
-  λ p. yes-and (leZ (negsuc 999999) z) _ (p .0 .le) (p .1 .le),
+  λ t. let (least, most) = and-yes (leZ leastWeight z) _ t in (leZ-yes least, leZ-yes most),
+  λ p. yes-and (leZ leastWeight z) _ (p .0 .le) (p .1 .le),
 )
 
 -- From -1 to the most: -1, or from 0 to the most.
 or-none : (z : ℤ)
-    → T (leZ (negsuc 0) z && leZ z (pos 1000000)) ↔ ((z ≡ negsuc 0) ⊎ ((pos 0 ≤ℤ z) × (z ≤ℤ pos 1000000)))
+    → T (leZ (negsuc 0) z && leZ z (pos mostWeight)) ↔ ((z ≡ negsuc 0) ⊎ ((pos 0 ≤ℤ z) × (z ≤ℤ pos mostWeight)))
 or-none (pos n) = (
   λ t. inr (leZ-yes (le→leb 0 n (omega arith)), leZ-yes t),
   ⊎-elim (λ (e : pos n ≡ negsuc 0). absurd (pos-ne-negsuc n 0 e)) (λ p. p .1 .le),

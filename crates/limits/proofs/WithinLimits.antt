@@ -15,6 +15,7 @@ use lib.Signed.{_≤ℤ_}
 use Rattle.answers.specs.Refusal.{Method, orElse}
 use Rattle.answers.proofs.Unmet.{orElse-none}
 use Rattle.plans.specs.declared.Header.{Header}
+use Rattle.plans.specs.Limits.{mostWeight, leastWeight}
 use Rattle.plans.specs.Plan.{Accepted, wordCountOf, cellsOf, Kind, resultsOf}
 use Rattle.headers.specs.Refusal.{headerRefusal}
 use Rattle.headers.proofs.Headers.{accepted}
@@ -129,15 +130,15 @@ module _ (request : List ℕ) (lent : Lengths) where
 
 -- ---- how large the fields are
 
-either-way : (z : ℤ) → negsuc 999999 ≤ℤ z → z ≤ℤ pos 1000000 → natAbs z ≤ 1000000
-either-way (pos n) a b = leb→le n 1000000 (b .le)
-either-way (negsuc n) a b = omega (arith, leb→le n 999999 (a .le))
+either-way : (z : ℤ) → leastWeight ≤ℤ z → z ≤ℤ pos mostWeight → natAbs z ≤ mostWeight
+either-way (pos n) a b = leb→le n mostWeight (b .le)
+either-way (negsuc n) a b = omega (arith, leb→le n (mostWeight - 1) (a .le))
 
 -- An edge's ends and weight.
 pub record EdgeWithin (n word : ℕ) : Type 0 where
   pub from-below : fromField word < n
   pub to-below : toField word < n
-  pub weight-most : natAbs (weightOf word) ≤ 1000000
+  pub weight-most : natAbs (weightOf word) ≤ mostWeight
 
 edge-within : (n word : ℕ) (more : List (ℕ × Type 0)) → AllKept (edgeLimits n word more) → EdgeWithin n word
 edge-within n word more (_, (from, (to, (weight, _)))) =
@@ -161,7 +162,7 @@ module _ (method n before word : ℕ) (kept : AllKept (wordLimits method n befor
       let all : AllKept (edgeLimits n word (orderLimits before word)) = rw three at kept in
       let (_, (_, (_, (_, (order, _))))) = all in order
 
-  as-entry : method ≡ 2 → (weightOf word ≡ negsuc 0) ⊎ ((pos 0 ≤ℤ weightOf word) × (weightOf word ≤ℤ pos 1000000))
+  as-entry : method ≡ 2 → (weightOf word ≡ negsuc 0) ⊎ ((pos 0 ≤ℤ weightOf word) × (weightOf word ≤ℤ pos mostWeight))
   as-entry two =
       let all : AllKept (entryLimits word) = rw two at kept in
       let (_, (weight, _)) = all in weight
@@ -198,7 +199,7 @@ module _ (request : List ℕ) (lent : Lengths) (w : WithinLimits request lent) w
 
     -- Method 2: word i is an entry's.
     pub entry-in : header .method ≡ 2 → i < header .vertices * header .vertices
-        → (weightOf word ≡ negsuc 0) ⊎ ((pos 0 ≤ℤ weightOf word) × (weightOf word ≤ℤ pos 1000000))
+        → (weightOf word ≡ negsuc 0) ⊎ ((pos 0 ≤ℤ weightOf word) × (weightOf word ≤ℤ pos mostWeight))
     entry-in two l = as-entry _ _ _ word (kept-at (rw two l)) two
 
   -- Method 3: the next one's to-vertex is not below it.

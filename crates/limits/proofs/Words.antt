@@ -1,24 +1,24 @@
 -- Which refusal a word meets, by the ways out of `check_weight`, `check_edge`, `check_sorted`, `check_entry` and `check_word`; and words in
 -- their order. Rests on the machine's laws of signed numbers, headers' Figured and answers' Unmet.
-use mathlib.Core.Path.{_≡_, refl, sym, ap, _∙_}
+use mathlib.Core.Path.{_≡_, refl, sym, _∙_}
 use mathlib.Core.Bool.{Bool, true, false, not}
 use mathlib.Core.List.{List, []}
 use mathlib.Core.Option.{none, some}
 use Prim.Native.Nat.{ℕ, suc, _+_, _-_, _*_, _^_, _<_, _≤_}
 use native.Mathlib.Omega.{arith}
 use lib.Dec.{ltb, leb}
-use lib.IntN.{ℤ, pos, negsuc}
+use lib.IntN.{ℤ, pos}
 use lib.ListN.{length, getD, drop, drop-of-length-le}
 use lib.Seq.{getD-drop}
 use lib.Signed.{ltZ, leZ, mag}
-use borrow.Author.Tests.{lt-ltb, le-ltb, le-leb, lt-leb, ltb-true, ltb-false, eq-eqb, ne-eqb}
+use borrow.Author.Tests.{lt-ltb, le-ltb, le-leb, lt-leb, eq-eqb, ne-eqb}
 use Rattle.lists.proofs.Slices.{next}
 use Rattle.answers.specs.declared.Refusal.{Refusal}
 use Rattle.answers.specs.declared.Checked.{Checked}
 use Rattle.answers.specs.declared.Checked.the-variants.{Accepted, Refused}
 use Rattle.answers.specs.Refusal.{SpareBits, Weight, FromVertex, ToVertex, Unsorted, Destination, need, found, orElse}
 use Rattle.answers.proofs.Unmet.{first-append}
-use Rattle.machine.proofs.Tested.{back, kept}
+use Rattle.machine.proofs.Tested.{back, kept, not-less}
 use Rattle.plans.specs.declared.Header.{Header}
 use Rattle.plans.specs.Limits.{mostWeight, leastWeight, noEdge}
 use Rattle.plans.specs.Plan as Plan
@@ -28,16 +28,6 @@ use Rattle.limits.specs.Word.{placedCount, fromField, toField, spareOfEd
 use Rattle.limits.specs.Refusal.{inRange, edgeTests, edgeRefusal, orderTests, sortedRefusal, entryRefusal, wordRefusal, wordsRefusal, lastRefusal}
 
 -- ---- the weight
-
-flipped : (a b : ℕ) (t : Bool) → ltb a b ≡ t → leb b a ≡ not t
-flipped a b true e = lt-leb b a (ltb-true a b e)
-flipped a b false e = le-leb b a (ltb-false a b e)
-
-not-less : (x y : ℤ) (t : Bool) → ltZ x y ≡ t → leZ y x ≡ not t
-not-less (pos a) (pos b) t e = flipped a b t e
-not-less (pos a) (negsuc b) t e = ap not e
-not-less (negsuc a) (pos b) t e = ap not e
-not-less (negsuc a) (negsuc b) t e = flipped b a t e
 
 -- v is the word's weight, as it comes from its function, and r the refusal.
 module _ (least : ℤ) (place w : ℕ) (few : mag least < 2 ^ 63) (v : ℤ) (small : mag v < 2 ^ 63) (is : v ≡ weightOf w) where

@@ -71,19 +71,19 @@ pub record Facts : Type 0 where
   pub spare1 : (edge 0x0000000100000000 ≡ atPlace 10 0) × (edge 0x0000800000000000 ≡ atPlace 10 0) × (edge 0x0000018000000000 ≡ atPlace 10 0)
   -- "spare 32 (zero), price 32": where a lane has its yards there are spare bits.
   pub spare2 : (entry 0x0000000100000000 ≡ atPlace 10 0) × (entry 0x8000000000000000 ≡ atPlace 10 0) × (entry 0x0001800000000000 ≡ atPlace 10 0)
-  -- 11 for "price outside its range": "-1,000,000 to 1,000,000 in method 1", "in two's complement".
-  pub weights1 : (edge 0x00000000FFF0BDC0 ≡ noRefusal)
-      × (edge 0x00000000FFF0BDBF ≡ atPlace 11 0)
-      × (edge 0x00000000000F4240 ≡ noRefusal)
-      × (edge 0x00000000000F4241 ≡ atPlace 11 0)
+  -- 11 for "price outside its range": "-100,000,000 to 100,000,000 in method 1", "in two's complement".
+  pub weights1 : (edge 0x00000000FA0A1F00 ≡ noRefusal)
+      × (edge 0x00000000FA0A1EFF ≡ atPlace 11 0)
+      × (edge 0x0000000005F5E100 ≡ noRefusal)
+      × (edge 0x0000000005F5E101 ≡ atPlace 11 0)
       × (edge 0x0000000080000000 ≡ atPlace 11 0)
       × (edge 0x000000007FFFFFFF ≡ atPlace 11 0)
-  -- "0 to 1,000,000 or -1 in method 2"
+  -- "0 to 100,000,000 or -1 in method 2"
   pub weights2 : (entry 0x00000000FFFFFFFF ≡ noRefusal)
       × (entry 0x00000000FFFFFFFE ≡ atPlace 11 0)
       × (entry 0x0000000000000000 ≡ noRefusal)
-      × (entry 0x00000000000F4240 ≡ noRefusal)
-      × (entry 0x00000000000F4241 ≡ atPlace 11 0)
+      × (entry 0x0000000005F5E100 ≡ noRefusal)
+      × (entry 0x0000000005F5E101 ≡ atPlace 11 0)
   -- "words after the header are not m, or not n² in method 2": one less and one more than asked.
   pub words : (tried (0x1000020000100000 ∷ []) 17 48 2 2 ≡ byNumber 5)
       × (tried (0x1000020000100000 ∷ 0 ∷ 0 ∷ []) 17 48 2 2 ≡ byNumber 5)
@@ -139,26 +139,26 @@ pub record Facts : Type 0 where
       × (tried (0x1000020000100000 ∷ 0 ∷ []) 16 47 2 2 ≡ byNumber 6)
       × (tried (0x1000020000100000 ∷ 0 ∷ []) 17 47 1 2 ≡ byNumber 7)
       × (tried (0x1000020000100000 ∷ 0x0200000000000000 ∷ []) 17 48 2 1 ≡ byNumber 8)
-      × (tried (0x1000020000100000 ∷ 0x00000000000F4241 ∷ []) 17 48 1 2 ≡ byNumber 8)
+      × (tried (0x1000020000100000 ∷ 0x0000000005F5E101 ∷ []) 17 48 1 2 ≡ byNumber 8)
   -- "In one lane word the order is spare bits, from, to, price": spare bits with each of the others, the from-yard with those after it, the
   -- to-yard with the price; the last three, and all four.
   pub faults : (edge 0x0200000100000000 ≡ atPlace 10 0)
       × (edge 0x0002000100000000 ≡ atPlace 10 0)
-      × (edge 0x00000001000F4241 ≡ atPlace 10 0)
+      × (edge 0x0000000105F5E101 ≡ atPlace 10 0)
       × (edge 0x0202000000000000 ≡ atPlace 13 0)
-      × (edge 0x02000000000F4241 ≡ atPlace 13 0)
-      × (edge 0x00020000000F4241 ≡ atPlace 14 0)
-      × (edge 0x02020000000F4241 ≡ atPlace 13 0)
-      × (edge 0x02020001000F4241 ≡ atPlace 10 0)
+      × (edge 0x0200000005F5E101 ≡ atPlace 13 0)
+      × (edge 0x0002000005F5E101 ≡ atPlace 14 0)
+      × (edge 0x0202000005F5E101 ≡ atPlace 13 0)
+      × (edge 0x0202000105F5E101 ≡ atPlace 10 0)
   -- "Add this as method 3 with method 1's lane words and limits."
   pub sorted-edge : (sorted 0x0101000000000000 ≡ noRefusal)
       × (sorted 0x0000000100000000 ≡ atPlace 10 0)
       × (sorted 0x0200000000000000 ≡ atPlace 13 0)
       × (sorted 0x0002000000000000 ≡ atPlace 14 0)
-      × (sorted 0x00000000FFF0BDC0 ≡ noRefusal)
-      × (sorted 0x00000000FFF0BDBF ≡ atPlace 11 0)
-      × (sorted 0x00000000000F4241 ≡ atPlace 11 0)
-      × (sorted 0x02020001000F4241 ≡ atPlace 10 0)
+      × (sorted 0x00000000FA0A1F00 ≡ noRefusal)
+      × (sorted 0x00000000FA0A1EFF ≡ atPlace 11 0)
+      × (sorted 0x0000000005F5E101 ≡ atPlace 11 0)
+      × (sorted 0x0202000105F5E101 ≡ atPlace 10 0)
   -- "15 when a lane's to-yard is below the one before it, with the place of that lane": the one before, and not the first; an equal one is not
   -- below; from-yards in any order; and in method 1 any order.
   pub order3 : (two 0x0000000000000000 0x0002000000000000 ≡ noRefusal)
@@ -171,7 +171,7 @@ pub record Facts : Type 0 where
   -- "tested after its price": a lane out of order with each other fault.
   pub order-last : (two 0x0002000000000000 0x0001000100000000 ≡ atPlace 10 1)
       × (two 0x0002000000000000 0x0301000000000000 ≡ atPlace 13 1)
-      × (two 0x0002000000000000 0x00010000000F4241 ≡ atPlace 11 1)
+      × (two 0x0002000000000000 0x0001000005F5E101 ≡ atPlace 11 1)
       × (two 0x0002000000000000 0x0003000000000000 ≡ atPlace 14 1)
   -- Ask 5: "16, without place, .. when the destination word is not below n": of 2 yards, all 64 bits of the word, and of a request without lanes.
   pub destinations : (aimed 0 0 ≡ noRefusal)
@@ -186,17 +186,17 @@ pub record Facts : Type 0 where
   pub destination-last : (aimed 0x0000000100000000 2 ≡ atPlace 10 0)
       × (aimed 0x0200000000000000 2 ≡ atPlace 13 0)
       × (aimed 0x0002000000000000 2 ≡ atPlace 14 0)
-      × (aimed 0x00000000000F4241 2 ≡ atPlace 11 0)
+      × (aimed 0x0000000005F5E101 2 ≡ atPlace 11 0)
       × (aimed2 0 0x0002000000000000 2 ≡ atPlace 14 1)
       × (aimed2 0x0001000000000000 0 1 ≡ noRefusal)
       × (routed (0x5000020000100000 ∷ 0 ∷ 2 ∷ []) 21 63 2 2 0 ≡ byNumber 8)
   -- "10 before 11" in a table word.
-  pub entry-faults : entry 0x00000001000F4241 ≡ atPlace 10 0
+  pub entry-faults : entry 0x0000000105F5E101 ≡ atPlace 10 0
   -- "upward from place 0"; "places count from the word after the header".
-  pub places : (tried (0x1000020000200000 ∷ 0x00000000000F4241 ∷ 0x0202000100000000 ∷ []) 20 85 2 2 ≡ atPlace 11 0)
+  pub places : (tried (0x1000020000200000 ∷ 0x0000000005F5E101 ∷ 0x0202000100000000 ∷ []) 20 85 2 2 ≡ atPlace 11 0)
       × (tried (0x1000020000200000 ∷ 0 ∷ 0x0000000100000000 ∷ []) 20 85 2 2 ≡ atPlace 10 1)
       × (tried (0x1000020000200000 ∷ 0 ∷ 0x0200000000000000 ∷ []) 20 85 2 2 ≡ atPlace 13 1)
       × (tried (0x1000020000200000 ∷ 0 ∷ 0x0002000000000000 ∷ []) 20 85 2 2 ≡ atPlace 14 1)
-      × (tried (0x1000020000200000 ∷ 0 ∷ 0x00000000000F4241 ∷ []) 20 85 2 2 ≡ atPlace 11 1)
+      × (tried (0x1000020000200000 ∷ 0 ∷ 0x0000000005F5E101 ∷ []) 20 85 2 2 ≡ atPlace 11 1)
       × (tried (0x2000020000000000 ∷ 0 ∷ 0 ∷ 0x0000000100000000 ∷ 0 ∷ []) 20 67 2 2 ≡ atPlace 10 2)
       × (tried (0x2000020000000000 ∷ 0 ∷ 0 ∷ 0 ∷ 0x00000000FFFFFFFE ∷ []) 20 67 2 2 ≡ atPlace 11 3)

@@ -87,24 +87,24 @@ publicLimits request lent =
 
 -- ---- the words after the header (document 02, asks 1, 3 and 5)
 
--- An edge (lane): its spare bits are zero, it leads from and to vertices below n, its weight (price) is from -1,000,000 to 1,000,000; then `more`.
+-- An edge (lane): its spare bits are zero, it leads from and to vertices below n, its weight (price) is from -100,000,000 to 100,000,000; then `more`.
 abbrev pub edgeLimits : (n word : ℕ) (more : List (ℕ × Type 0)) → List (ℕ × Type 0)
 edgeLimits n word more =
     (10, spareOfEdge word ≡ 0)
     ∷ (13, fromField word < n)
     ∷ (14, toField word < n)
-    ∷ (11, (negsuc 999999 ≤ℤ weightOf word) × (weightOf word ≤ℤ pos 1000000))
+    ∷ (11, (negsuc 99999999 ≤ℤ weightOf word) × (weightOf word ≤ℤ pos 100000000))
     ∷ more
 
 -- Method 3 besides: its to-vertex is not below that of the edge before it.
 abbrev pub orderLimits : (before word : ℕ) → List (ℕ × Type 0)
 orderLimits before word = (15, toField before ≤ toField word) ∷ []
 
--- Method 2, an entry of the table: its spare bits are zero, its weight is from 0 to 1,000,000, or -1 for no edge.
+-- Method 2, an entry of the table: its spare bits are zero, its weight is from 0 to 100,000,000, or -1 for no edge.
 abbrev pub entryLimits : (word : ℕ) → List (ℕ × Type 0)
 entryLimits word =
     (10, spareOfEntry word ≡ 0)
-    ∷ (11, (weightOf word ≡ negsuc 0) ⊎ ((pos 0 ≤ℤ weightOf word) × (weightOf word ≤ℤ pos 1000000)))
+    ∷ (11, (weightOf word ≡ negsuc 0) ⊎ ((pos 0 ≤ℤ weightOf word) × (weightOf word ≤ℤ pos 100000000)))
     ∷ []
 
 abbrev pub wordLimits : (method n before word : ℕ) → List (ℕ × Type 0)

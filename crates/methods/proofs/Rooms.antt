@@ -1,11 +1,11 @@
--- Room for every method, within 32 vertices and 128 edges: two inequalities, met by today's numbers and by those of ask 7.
+-- Room for every method, within 32 vertices and 128 edges: two inequalities, and that FAR and the greatest weight meet them.
 -- Rests on the definitions alone.
 use Prim.Native.Nat.{ℕ, suc, _+_, _-_, _*_, _^_, _<_, _≤_}
 use native.Mathlib.Nat.{mul-le-mul, mul-le-mul-right}
 use native.Mathlib.Omega.{arith}
 use lib.Dec.{lit<}
 use lib.IntN.{natAbs}
-use Rattle.plans.specs.Limits as Limits
+use Rattle.plans.specs.Limits.{far, mostWeight}
 use Rattle.methods.specs.Method1 as Method1
 use Rattle.methods.specs.Method2 as Method2
 use Rattle.methods.specs.Method3 as Method3
@@ -31,10 +31,6 @@ module _ (far limit : ℕ) (wide : Wide far limit) (n : ℕ) (few : n ≤ 32) wh
   pub room3 : Method3.Room far limit n
   room3 = record { deep = omega (arith, wide .deep, few-edges); fits = omega (arith, wide .deep, wide .fits) }
 
--- Document 01.
-pub today : Wide (natAbs Limits.far) 1000000
-today = record { deep = lit< tt; fits = lit< tt }
-
--- Ask 7.
-pub finer : Wide (2 ^ 39 - 1) 100000000
-finer = record { deep = lit< tt; fits = lit< tt }
+-- Those of ask 7: 4,096 times 100,000,000 is 409,600,000,000.
+pub wide : Wide (natAbs far) mostWeight
+wide = record { deep = lit< tt; fits = lit< tt }

@@ -1,14 +1,17 @@
 -- The table of specs/Facts, by computing the definitions. Rests on the definitions alone else.
 use mathlib.Core.Path.{refl}
-use Prim.Native.Nat.{_<_, _≤_}
+use Prim.Native.Nat.{ℕ, _-_, _^_, _<_, _≤_}
 use native.Mathlib.Omega.{arith}
-use lib.Dec.{T}
-use Rattle.fields.specs.Fields.{bitsOf}
+use lib.Dec.{T, ltb, le→leb}
+use lib.Signed.{_≤ℤ_, leZ-yes}
+use borrow.Author.Tests.{ltb-true}
+use Rattle.lists.proofs.Test.{by-test}
+use Rattle.fields.specs.Fields.{signedOf, bitsOf}
 use Rattle.machine.specs.Word.{packed, packedSet}
 use Rattle.plans.specs.Blocks.{flat}
 use Rattle.plans.specs.Outline.{instructions}
 use Rattle.plans.specs.declared.Header.{Header}
-use Rattle.plans.specs.Limits.{knownMethod, mostEdges}
+use Rattle.plans.specs.Limits.{far, knownMethod, mostEdges}
 use Rattle.plans.specs.Method1 as Method1
 use Rattle.plans.specs.Method2 as Method2
 use Rattle.plans.specs.Method3 as Method3
@@ -21,11 +24,20 @@ within : (h : Header) → T (knownMethod (h .method)) → 0 < h .vertices → h 
 within h known some few edges source =
     record { known = known; vertices-some = some; vertices-few = few; edges-few = edges; source-there = source }
 
+largest : (bits : ℕ) → signedOf 40 bits ≤ℤ far
+unfolding signedOf
+largest bits =
+    by-test (ltb bits (2 ^ 39))
+    (λ e. rw e (leZ-yes (le→leb bits (2 ^ 39 - 1) (omega (arith, ltb-true bits (2 ^ 39) e)))))
+    (λ e. rw e (leZ-yes tt))
+
 pub facts : Facts
-unfolding bitsOf packed packedSet flat instructions Method1.plan Method2.plan Method3.plan Method5.plan instructionsOf planOf wordCountOf cellsOf resultsOf verdictCell
+unfolding bitsOf signedOf packed packedSet flat instructions Method1.plan Method2.plan Method3.plan Method5.plan instructionsOf planOf wordCountOf cellsOf resultsOf verdictCell
 facts =
     record {
       far-is = refl;
+      far-written = refl;
+      far-largest = largest;
       header-fields = (refl, refl, refl);
       least1 = within _ tt (omega arith) (omega arith) (omega arith) (omega arith);
       most1 = within _ tt (omega arith) (omega arith) (omega arith) (omega arith);

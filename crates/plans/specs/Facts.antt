@@ -5,6 +5,8 @@ use mathlib.Core.List.{List, [], _∷_, _++_}
 use mathlib.Core.Option.{none, some}
 use Prim.Native.Nat.{ℕ}
 use lib.IntN.{pos, negsuc}
+use lib.Signed.{_≤ℤ_}
+use Rattle.fields.specs.Fields.{signedOf, bitsOf}
 use Rattle.plans.specs.Limits.{far, mostWeight, leastWeight, noEdge}
 use Rattle.plans.specs.Plan.{headerOf, headerWord, Accepted, planOf, wordCountOf, cellsOf, distances, parents, route, span, none-given, resultsOf, verdictCell}
 
@@ -13,10 +15,10 @@ use Rattle.plans.specs.Plan.{headerOf, headerWord, Accepted, planOf, wor
 abbrev pub opening1 : List ℕ
 opening1 =
     -- For each v, SET Y+v to v, SET D+v to 0 if v is the source, else FAR, SET P+v to -1.
-    (0x00000A0000000000 ∷ 0x0000064000000000 ∷ 0x000008FFFFFFFFFF ∷ [])
+    (0x00000A0000000000 ∷ 0x0000067FFFFFFFFF ∷ 0x000008FFFFFFFFFF ∷ [])
     ++ (0x00000B0000000001 ∷ 0x0000070000000000 ∷ 0x000009FFFFFFFFFF ∷ [])
     -- SET X to FAR, SET X+7 to 0.
-    ++ (0x00000C4000000000 ∷ 0x0000130000000000 ∷ [])
+    ++ (0x00000C7FFFFFFFFF ∷ 0x0000130000000000 ∷ [])
 
 -- Of edge 0, and of edge 1, in a pass and in the check.
 abbrev pub gather0 : List ℕ
@@ -68,10 +70,10 @@ check1 =
 abbrev pub opening2 : List ℕ
 opening2 =
     -- For each v, SET Y+v, D+v, P+v as above, SET O+v to 1.
-    (0x0000080000000000 ∷ 0x0000044000000000 ∷ 0x000006FFFFFFFFFF ∷ 0x00000A0000000001 ∷ [])
+    (0x0000080000000000 ∷ 0x0000047FFFFFFFFF ∷ 0x000006FFFFFFFFFF ∷ 0x00000A0000000001 ∷ [])
     ++ (0x0000090000000001 ∷ 0x0000050000000000 ∷ 0x000007FFFFFFFFFF ∷ 0x00000B0000000001 ∷ [])
     -- SET X to FAR, SET X+4 to 0.
-    ++ (0x00000E4000000000 ∷ 0x0000120000000000 ∷ [])
+    ++ (0x00000E7FFFFFFFFF ∷ 0x0000120000000000 ∷ [])
 
 abbrev pub turn2 : List ℕ
 turn2 =
@@ -94,10 +96,10 @@ turn2 =
 abbrev pub opening3 : List ℕ
 opening3 =
     -- For each v, SET Y+v to v, SET D+v to 0 if v is the source, else FAR, SET P+v to -1, SET N+v to FAR.
-    (0x00000B0000000000 ∷ 0x0000074000000000 ∷ 0x000009FFFFFFFFFF ∷ 0x00000D4000000000 ∷ [])
-    ++ (0x00000C0000000001 ∷ 0x0000080000000000 ∷ 0x00000AFFFFFFFFFF ∷ 0x00000E4000000000 ∷ [])
+    (0x00000B0000000000 ∷ 0x0000077FFFFFFFFF ∷ 0x000009FFFFFFFFFF ∷ 0x00000D7FFFFFFFFF ∷ [])
+    ++ (0x00000C0000000001 ∷ 0x0000080000000000 ∷ 0x00000AFFFFFFFFFF ∷ 0x00000E7FFFFFFFFF ∷ [])
     -- SET X to FAR, SET X+8 to 0, SET B to -1.
-    ++ (0x0000114000000000 ∷ 0x0000190000000000 ∷ 0x000002FFFFFFFFFF ∷ [])
+    ++ (0x0000117FFFFFFFFF ∷ 0x0000190000000000 ∷ 0x000002FFFFFFFFFF ∷ [])
 
 abbrev pub prepare3 : List ℕ
 prepare3 =
@@ -174,9 +176,9 @@ follow5 =
 abbrev pub opening5 : List ℕ
 opening5 =
     (0x0000060000000000 ∷ 0x0000000000000000 ∷ 0x000003FFFFFFFFFF ∷ [])
-    ++ (0x0000070000000001 ∷ 0x0000014000000000 ∷ 0x000004FFFFFFFFFF ∷ [])
-    ++ (0x0000080000000002 ∷ 0x0000024000000000 ∷ 0x000005FFFFFFFFFF ∷ [])
-    ++ (0x0000094000000000 ∷ 0x0000100000000000 ∷ [])
+    ++ (0x0000070000000001 ∷ 0x0000017FFFFFFFFF ∷ 0x000004FFFFFFFFFF ∷ [])
+    ++ (0x0000080000000002 ∷ 0x0000027FFFFFFFFF ∷ 0x000005FFFFFFFFFF ∷ [])
+    ++ (0x0000097FFFFFFFFF ∷ 0x0000100000000000 ∷ [])
     -- Without edges the predecessors are the copies alone; then COPY X+1 from Z.
     ++ (0x1000120000600000 ∷ 0x1000130000700000 ∷ 0x1000140000800000 ∷ 0x10000A0001100000 ∷ [])
 
@@ -195,8 +197,10 @@ place1 =
     ++ (0x40000E0000B00008 ∷ 0x6000160000E00005 ∷ 0x60000A0000E00014 ∷ [])
 
 pub record Facts : Type 0 where
-  -- "FAR is 2^38 = 274,877,906,944"
-  pub far-is : far ≡ pos 274877906944
+  -- "2^39-1 = 549,755,813,887, the largest number SET can write": its 40 bits are read back as it, and none are read as more.
+  pub far-is : far ≡ pos 549755813887
+  pub far-written : signedOf 40 (bitsOf 40 far) ≡ far
+  pub far-largest : (bits : ℕ) → signedOf 40 bits ≤ℤ far
   -- "Header: method 4 bits, n 20, m 20, source 20", both ways, and all of their bits.
   pub header-fields : (headerOf 0x9123456789ABCDEF ≡ record { method = 9; vertices = 0x12345; edges = 0x6789A; source = 0xBCDEF })
       × (headerOf 0xFFFFFFFFFFFFFFFF ≡ record { method = 15; vertices = 1048575; edges = 1048575; source = 1048575 })
@@ -223,8 +227,8 @@ pub record Facts : Type 0 where
   pub source-past1 : ¬ Accepted (headerOf 0x1000200008000020)
   pub source-past2 : ¬ Accepted (headerOf 0x2000010000000001)
   pub source-past5 : ¬ Accepted (headerOf 0x5000200008000020)
-  -- "Prices: -1,000,000 to 1,000,000 in method 1, 0 to 1,000,000 or -1 in method 2."
-  pub weights : (leastWeight ≡ negsuc 999999) × (mostWeight ≡ 1000000) × (noEdge ≡ negsuc 0)
+  -- "prices reach 100,000,000 either way (in method 2 from 0 upward, or -1 as before)"
+  pub weights : (leastWeight ≡ negsuc 99999999) × (mostWeight ≡ 100000000) × (noEdge ≡ negsuc 0)
   -- "3m+3n+8 in all", "n²+5n+6 in all", "2nm+4m+5n+10 in all", "3m+5n+8 in all": at the limits, and at the plans below.
   pub cells : (cellsOf (headerOf 0x100020000800001F) ≡ 488)
       × (cellsOf (headerOf 0x1000020000200001) ≡ 20)

@@ -1,13 +1,13 @@
--- The numbers that document 01 fixes, each named once. Rests on the toolchain's library alone.
+-- The numbers that document 01 fixes, with those of ask 7 of document 02, each named once. Rests on the toolchain's library alone.
 use mathlib.Core.Bool.{Bool, false, cond, _||_}
 use mathlib.Core.List.{List, [], _∷_}
 use Prim.Native.Nat.{ℕ, _-_, _^_}
 use lib.Dec.{eqb}
 use lib.IntN.{ℤ, pos, negsuc}
 
--- The mark of an unreached vertex (FAR).
+-- The mark of an unreached vertex (FAR): the greatest number that SET writes.
 abbrev pub far : ℤ
-far = pos (2 ^ 38)
+far = pos (2 ^ 39 - 1)
 
 -- ---- methods
 
@@ -42,7 +42,7 @@ mostEdges method = byMethod method 0 (128 ∷ 0 ∷ 128 ∷ 128 ∷ [])
 
 -- Weights (prices): an edge's from the least to the greatest, an entry's from 0, or -1, which stands for no edge.
 abbrev pub mostWeight : ℕ
-mostWeight = 1000000
+mostWeight = 100000000
 
 abbrev pub leastWeight : ℤ
 leastWeight = negsuc (mostWeight - 1)

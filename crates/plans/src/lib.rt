@@ -1,8 +1,8 @@
 // The header of a request and of its plan, and the limits. The rest of this crate is theory: the plans of the methods and the laws about them.
 // Rests on fields and machine.
 
-// The mark of an unreached vertex.
-pub const FAR: i64 = 274877906944;
+// The mark of an unreached vertex: the greatest number that SET writes.
+pub const FAR: i64 = 549755813887;
 
 // The greatest counts.
 pub const MOST_VERTICES: u64 = 32;
@@ -10,7 +10,7 @@ pub const MOST_VERTICES: u64 = 32;
 pub const MOST_EDGES: u64 = 128;
 
 // The greatest weight; the least of an edge is as far below 0 (document 01: the range of prices).
-pub const MOST_WEIGHT: i64 = 1000000;
+pub const MOST_WEIGHT: i64 = 100000000;
 
 // The weight that stands for no edge in a table.
 pub const NO_EDGE: i64 = -1;

@@ -7,11 +7,13 @@ use native.Mathlib.Nat.{mul-add, mul-assoc, mul-le-mul, mod-lt, add-zero, zero-a
 use native.Mathlib.Omega.{arith}
 use borrow.Author.Tests.{ne-eqb, lt-ltb, le-ltb}
 use lib.Bits.{bitAnd, and-block, and-mask, and-le-r}
+use lib.IntN.{natAbs}
 use lib.ListN.{length, getD, List·getD-eq-default}
 use lib.Pow.{split, shr-shr, mod-mod-pow}
 use Rattle.fields.specs.Fields.{fieldOf, joinOf}
 use Rattle.machine.specs.Instruction.{All}
 use Rattle.machine.specs.Word.{opField, bField, packed, packedSet}
+use Rattle.plans.specs.Limits.{far}
 use Rattle.rows.specs.declared.Row.{Row}
 use Rattle.rows.specs.Code.{placeOf, stepOf, flagsOf, setNumber, setOther, setStep, wordStep, setRow, instructionRow, rowOfCode}
 use Rattle.rows.specs.Rows.{loopRow}
@@ -84,18 +86,18 @@ module _ (env : List ℕ) (s code : ℕ) {i y : ℕ} (index : i ≡ fieldOf (11 
 -- ---- SET
 
 module _ (code : ℕ) {b : ℕ} (is : b ≡ bField code) where
-  pub number-listed : (i : ℕ) → b ≡ i → getD (fieldOf 20 5 code ∷ (2 ^ 38) ∷ (2 ^ 40 - 1) ∷ []) i 0 ≡ setNumber code
+  pub number-listed : (i : ℕ) → b ≡ i → getD (fieldOf 20 5 code ∷ natAbs far ∷ (2 ^ 40 - 1) ∷ []) i 0 ≡ setNumber code
   unfolding setNumber
   number-listed i e = rw (← is, e)
 
   pub number-none : 2 < b → 0 ≡ setNumber code
   number-none h = number-listed (suc (suc (suc (b - 3)))) (omega arith)
 
-  pub other-far : b ≡ 3 → 2 ^ 38 ≡ setOther code
+  pub other-far : b ≡ 3 → natAbs far ≡ setOther code
   unfolding setOther
   other-far e = rw (← is, e)
 
-  zeros : (i : ℕ) → (i ≡ 3 → ⊥) → 0 ≡ getD (0 ∷ 0 ∷ 0 ∷ (2 ^ 38) ∷ []) i 0
+  zeros : (i : ℕ) → (i ≡ 3 → ⊥) → 0 ≡ getD (0 ∷ 0 ∷ 0 ∷ natAbs far ∷ []) i 0
   zeros zero p = refl
   zeros (suc zero) p = refl
   zeros (suc (suc zero)) p = refl

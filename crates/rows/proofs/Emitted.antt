@@ -7,12 +7,13 @@ use Prim.Native.Nat.{ℕ, zero, suc, _+_, _-_, _*_, _^_, _≤_}
 use native.Mathlib.Nat.{add-mul, mul-comm, mul-right-comm, not-suc-le-zero, le-of-suc-le-suc}
 use native.Mathlib.Omega.{arith}
 use lib.Dec.{eqb}
-use lib.IntN.{pos}
+use lib.IntN.{pos, natAbs}
 use lib.ListN.{length, getD, length-append, length-map}
 use lib.Seq.{take-at, drop-at, take-append-seam, drop-append-seam}
 use Rattle.fields.specs.Fields.{joinOf, bitsOf}
 use Rattle.machine.specs.Word.{packed, packedSet, encode}
 use Rattle.plans.specs.declared.Counters.{Counters}
+use Rattle.plans.specs.Limits.{far}
 use Rattle.plans.specs.Blocks.{flat}
 use Rattle.plans.specs.Regions.{address}
 use Rattle.plans.specs.Outline.{Level, outer, middle, inner, counter, counted-to, Count, vertices, others, edges, times, timesOf, Spot, fixed, at, after, entry, spotOf, Cell, cellOf, Number, small, minus-one, unreached, counted, from-source, numberOf, Line, set, copy, add, less, equal, both, moveif, opens, instructionOf, Outline, end, line, run, each, again, instructions}
@@ -83,7 +84,7 @@ no-other : (b : Bool) (y : ℕ) → y + cond b 0 0 ≡ y
 no-other true y = omega arith
 no-other false y = omega arith
 
-source-bits : (b : Bool) → 0 + cond b 0 (2 ^ 38) ≡ bitsOf 40 (cond b (pos 0) (pos (2 ^ 38)))
+source-bits : (b : Bool) → 0 + cond b 0 (natAbs far) ≡ bitsOf 40 (cond b (pos 0) far)
 unfolding bitsOf
 source-bits true = refl
 source-bits false = refl
@@ -107,14 +108,14 @@ module _ (source : ℕ) (k : Counters) where
 
   number-word : {d x : ℕ} {s : Level → ℕ} (z : Number) → Moves k d s x
       → wordOf source (wordRow (packedSet d (rawOf z)) (λ l. packedSet (s l) (rawStep l z)) (rawOther z)) k
-      ≡ packedSet x (bitsOf 40 (numberOf (pos (2 ^ 38)) source k z))
+      ≡ packedSet x (bitsOf 40 (numberOf far source k z))
   unfolding bitsOf
   number-word (small j) e = plain-set e (still j)
   number-word minus-one e = plain-set e (still (2 ^ 40 - 1))
-  number-word unreached e = plain-set e (still (2 ^ 38))
+  number-word unreached e = plain-set e (still (natAbs far))
   number-word (counted l) e = plain-set e (level-moves l)
   number-word {x = x} from-source e =
-      set-word (2 ^ 38) e (still 0) ∙ ap (packedSet x) (source-bits (eqb (k .inner) source))
+      set-word (natAbs far) e (still 0) ∙ ap (packedSet x) (source-bits (eqb (k .inner) source))
 
 -- ---- lists
 
@@ -192,12 +193,12 @@ module _ (n m source : ℕ) (starts : List ℕ) where
   abbrev env : List ℕ
   env = envOf n m starts
 
-  cell-moves : (k : Counters) (c : Cell) → Moves k (baseOf env c) (λ l. strideOf n l c) (cellOf (address starts) (pos (2 ^ 38)) n m source k c)
+  cell-moves : (k : Counters) (c : Cell) → Moves k (baseOf env c) (λ l. strideOf n l c) (cellOf (address starts) far n m source k c)
   cell-moves k (r, s) =
       record { is = omega (arith, region-at n m starts r, spot-moves {k = k} n s .is) }
 
   pub row-word : (k : Counters) (x : Line)
-      → wordOf source (rowOf n env x) k ≡ encode (instructionOf (address starts) (pos (2 ^ 38)) n m source k x)
+      → wordOf source (rowOf n env x) k ≡ encode (instructionOf (address starts) far n m source k x)
   row-word k (set d z) = number-word source k z (cell-moves k d)
   row-word k (copy d a) = three-word source k 1 (cell-moves k d) (cell-moves k a) (still 0)
   row-word k (add d a b) = three-word source k 2 (cell-moves k d) (cell-moves k a) (cell-moves k b)
@@ -208,7 +209,7 @@ module _ (n m source : ℕ) (starts : List ℕ) where
   row-word k (opens a) = three-word source k 7 (still 0) (cell-moves k a) (still 0)
 
   run-words : (k : Counters) (ls : List Line)
-      → map (λ y. wordOf source y k) (map (rowOf n env) ls) ≡ map encode (map (instructionOf (address starts) (pos (2 ^ 38)) n m source k) ls)
+      → map (λ y. wordOf source y k) (map (rowOf n env) ls) ≡ map encode (map (instructionOf (address starts) far n m source k) ls)
   run-words k [] = refl
   run-words k (x ∷ ls) = rw (row-word k x, run-words k ls)
 
@@ -219,7 +220,7 @@ module _ (n m source : ℕ) (starts : List ℕ) where
   count-is (times k) = omega arith
 
   pub emits : (o : Outline) (k : Counters) (d : ℕ) → length (rowsOf n env o) ≤ d
-      → expand source d (rowsOf n env o) k ≡ map encode (instructions (address starts) (pos (2 ^ 38)) n m source o k)
+      → expand source d (rowsOf n env o) k ≡ map encode (instructions (address starts) far n m source o k)
   unfolding expand rowsOf instructions
   emits end k zero h = refl
   emits end k (suc d) h = refl

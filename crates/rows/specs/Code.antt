@@ -5,9 +5,11 @@ use mathlib.Core.Bool.{cond}
 use mathlib.Core.List.{List, [], _∷_}
 use Prim.Native.Nat.{ℕ, _+_, _-_, _^_}
 use lib.Dec.{eqb, ltb}
+use lib.IntN.{natAbs}
 use lib.ListN.{getD}
 use Rattle.fields.specs.Fields.{fieldOf}
 use Rattle.machine.specs.Word.{opField, bField, packed, packedSet}
+use Rattle.plans.specs.Limits.{far}
 use Rattle.plans.specs.Outline.{Level, outer, middle, inner}
 use Rattle.rows.specs.declared.Row.{Row}
 use Rattle.rows.specs.Rows.{wordRow, loopRow}
@@ -28,10 +30,10 @@ flagsOf i code = packed 0 (fieldOf (i + 40) 1 code) (fieldOf (i + 20) 1 code) (f
 -- ---- SET's number: operand a's offset and counters, or FAR, -1, or 0 where the inner counter is the source, else FAR; by b
 
 unfoldable pub setNumber : (code : ℕ) → ℕ
-setNumber code = getD (fieldOf 20 5 code ∷ (2 ^ 38) ∷ (2 ^ 40 - 1) ∷ []) (bField code) 0
+setNumber code = getD (fieldOf 20 5 code ∷ natAbs far ∷ (2 ^ 40 - 1) ∷ []) (bField code) 0
 
 unfoldable pub setOther : (code : ℕ) → ℕ
-setOther code = getD (0 ∷ 0 ∷ 0 ∷ (2 ^ 38) ∷ []) (bField code) 0
+setOther code = getD (0 ∷ 0 ∷ 0 ∷ natAbs far ∷ []) (bField code) 0
 
 -- ---- rows
 

@@ -2,8 +2,10 @@
 -- Rests on outlines and the machine's words.
 use mathlib.Core.List.{List, [], _∷_, _++_, map}
 use Prim.Native.Nat.{ℕ, _+_, _-_, _^_}
+use lib.IntN.{natAbs}
 use lib.ListN.{length, getD}
 use Rattle.machine.specs.Word.{packed, packedSet}
+use Rattle.plans.specs.Limits.{far}
 use Rattle.plans.specs.Outline.{Level, outer, middle, inner, Count, vertices, others, edges, times, Spot, fixed, at, after, entry, Cell, Number, small, minus-one, unreached, counted, from-source, Line, set, copy, add, less, equal, both, moveif, opens, Outline, end, line, run, each, again}
 use Rattle.rows.specs.declared.Row.{Row}
 
@@ -55,7 +57,7 @@ strideOf n l (region, spot) = once l spot + rowwise n l spot
 abbrev pub rawOf : Number → ℕ
 rawOf (small j) = j
 rawOf minus-one = 2 ^ 40 - 1
-rawOf unreached = 2 ^ 38
+rawOf unreached = natAbs far
 rawOf (counted l) = 0
 rawOf from-source = 0
 
@@ -71,7 +73,7 @@ rawOther (small j) = 0
 rawOther minus-one = 0
 rawOther unreached = 0
 rawOther (counted l) = 0
-rawOther from-source = 2 ^ 38
+rawOther from-source = natAbs far
 
 -- ---- rows
 

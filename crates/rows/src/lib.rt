@@ -83,7 +83,7 @@ pub const FROM_SOURCE: u64 = 3;
 
 // ---- SET's numbers as a row has them, and a mask
 
-const FAR: u64 = 274877906944;
+const FAR: u64 = plans::FAR as u64;
 
 // The 40 bits of -1.
 const RAW_MINUS_ONE: u64 = 1099511627775;

@@ -3,10 +3,10 @@ use mathlib.Core.Path.{_≡_, ap}
 use mathlib.Core.List.{List, map}
 use Prim.Native.Nat.{ℕ, _^_, _<_, _≤_}
 use native.Mathlib.Omega.{arith}
-use lib.IntN.{pos}
 use lib.ListN.{length, length-map}
 use Rattle.machine.specs.Instruction.{All}
 use Rattle.machine.specs.Word.{encode}
+use Rattle.plans.specs.Limits.{far}
 use Rattle.plans.specs.Regions.{address}
 use Rattle.plans.specs.Outline.{Outline, start, instructions}
 use Rattle.rows.specs.Rows.{envOf, rowsOf}
@@ -20,7 +20,7 @@ SameRows n env lines o = map (rowOfCode n env) lines ≡ rowsOf n env o
 
 module _ (n m source : ℕ) (starts lines : List ℕ) (o : Outline) (rows : SameRows n (envOf n m starts) lines o) where
   abbrev plan : List ℕ
-  plan = map encode (instructions (address starts) (pos (2 ^ 38)) n m source o start)
+  plan = map encode (instructions (address starts) far n m source o start)
 
   few : length (rowsOf n (envOf n m starts) o) ≤ length lines
   few = omega (arith, ap length rows, length-map lines (rowOfCode n (envOf n m starts)))

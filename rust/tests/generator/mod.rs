@@ -5,7 +5,7 @@ pub mod faults;
 use crate::reference::plan::{head, pack, Public};
 use crate::reference::{log_length, plan_words, Buffers};
 
-const MOST: i64 = 1_000_000;
+const MOST: i64 = 100_000_000;
 
 /// The methods that there are.
 pub const METHODS: [u64; 4] = [1, 2, 3, 5];
@@ -89,7 +89,7 @@ pub fn request(random: &mut Random, method: u64, n: u64, m: u64) -> Vec<u64> {
 
 fn edge_words(random: &mut Random, n: u64, m: u64) -> Vec<u64> {
     let style = random.below(6);
-    let heights: Vec<i64> = (0..n).map(|_| random.between(0, 400_000)).collect();
+    let heights: Vec<i64> = (0..n).map(|_| random.between(0, 40_000_000)).collect();
     let wall = if random.one_in(3) { random.below(n) } else { 0 };
     let mut words = Vec::new();
     for _ in 0..m {
@@ -140,7 +140,7 @@ fn routed_words(random: &mut Random, n: u64, m: u64, source: u64) -> Vec<u64> {
 /// A trail from the source through all vertices, in any order among edges that
 /// lead nowhere sooner. The destination is often its end, or not far from it.
 fn trail_words(random: &mut Random, n: u64, m: u64, source: u64) -> Vec<u64> {
-    let heights: Vec<i64> = (0..n).map(|_| random.between(0, 400_000)).collect();
+    let heights: Vec<i64> = (0..n).map(|_| random.between(0, 40_000_000)).collect();
     let mut trail: Vec<u64> = (0..n).filter(|&vertex| vertex != source).collect();
     random.shuffle(&mut trail);
     trail.insert(0, source);

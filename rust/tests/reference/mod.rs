@@ -3,11 +3,12 @@
 pub mod depth;
 pub mod graph;
 pub mod plan;
+pub mod saved;
 
 use plan::{emit, head, lay, split, Machine, Public};
 
 const PLACES: usize = 1 << 24;
-const MOST: i64 = 1_000_000;
+const MOST: i64 = 100_000_000;
 
 /// The number, the place and the values of an answer, 0 where it has fewer than five.
 #[derive(Clone, Copy, Debug, PartialEq, Eq)]

@@ -1,7 +1,7 @@
 //! The plans of the methods and how a word is carried out, from the rules.
 
 /// Marks an unreached vertex.
-pub const FAR: i64 = 1 << 38;
+pub const FAR: i64 = (1 << 39) - 1;
 
 const FIELD: u64 = (1 << 20) - 1;
 

@@ -1,0 +1,3 @@
+pub mod Hundredfold
+pub mod Converted
+pub mod Facts

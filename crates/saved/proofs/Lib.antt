@@ -1,0 +1,4 @@
+pub mod Words
+pub mod Buffer
+pub mod Converts
+pub mod Facts
