@@ -1,7 +1,7 @@
 -- What a header's plan leaves of cells that intake has laid, whichever the method: the verdict, least totals and their parents.
 -- Rests on the methods and on Sources.
 use mathlib.Core.Path.{_≡_, refl, ap}
-use mathlib.Core.Logic.{_↔_, inl, inr, Iff·trans, Iff·not, _≢_}
+use mathlib.Core.Logic.{_↔_, Iff·trans, Iff·not, _≢_}
 use mathlib.Core.Bool.{cond}
 use mathlib.Core.List.{List, [], _∷_}
 use mathlib.Core.Option.{some}
@@ -20,7 +20,6 @@ use Rattle.plans.specs.Method2 as Plan2
 use Rattle.plans.specs.Plan.{Accepted, cellsOf, instructionsOf, planOf, Kind, distances, parents, route, resultsOf, verdictCell, published}
 use Rattle.plans.proofs.Headers.{header, by-method}
 use Rattle.limits.specs.Word.{destinationIn}
-use Rattle.limits.specs.WithinLimits.{OneOf}
 use Rattle.graph.specs.Walk.{Edge, Network, NegativeCycle, Below}
 use Rattle.graph.specs.Shortest.{Naming, Distances, Parents, Shortest}
 use Rattle.graph.specs.BellmanFord.{network, numbered}
@@ -44,6 +43,7 @@ use Rattle.methods.proofs.Headers.{header1, header2, header3, header5}
 use Rattle.demands.specs.Run.{openedAt, verdictOf}
 use Rattle.demands.specs.Network.{edgeOf, Entered, networkOf, namingOf, sourcesOf, CycleFrom}
 use Rattle.demands.specs.Besides.{besidesOf}
+use Rattle.demands.specs.Totals.{totalBelow}
 use Rattle.demands.proofs.Sources.{only-source, only-row}
 use Rattle.demands.proofs.Table.{tableOf}
 
@@ -77,16 +77,9 @@ pub record Left (h : Header) (ws : List ℕ) (start left : List ℤ) : Type 0 wh
   pub besides : verdictOf h left ≡ 0 → besidesOf h ws (λ k i. cellAt left (resultsOf h k .first + i))
   pub rest : (k : ℕ) → cellsOf h ≤ k → cellAt left k ≡ cellAt start k
   pub exact : Exact (instructionsOf h) start
-  pub below-far : OneOf (1 ∷ 3 ∷ 5 ∷ []) (h .method) → Summed (λ x w. x ≢ far → (x +ℤ w) <ℤ far) (instructionsOf h) start
+  pub below-far : Summed (totalBelow h) (instructionsOf h) start
   -- The opened word is the verdict.
   pub opened : openedAt (verdictCell h) left ≡ published (verdictCell h) (verdictOf h left)
-
--- Method 2 is none of those over edges.
-two-not : ¬ OneOf (1 ∷ 3 ∷ 5 ∷ []) 2
-two-not (inl e) = omega (arith, e)
-two-not (inr (inl e)) = omega (arith, e)
-two-not (inr (inr (inl e))) = omega (arith, e)
-two-not (inr (inr (inr e))) = e
 
 -- ---- the flag
 
@@ -163,6 +156,7 @@ record OverEdges (h : Header) (ws : List ℕ) (at : Edges.Places) : Type 1 where
   sources : sourcesOf h ≡ h .source ∷ []
   verdict : verdictCell h ≡ some (at .verdict)
   count : cellsOf h ≡ at .count
+  totals : totalBelow h ≡ (λ x w. x ≢ far → (x +ℤ w) <ℤ far)
   rows : (resultsOf h distances .count ≡ h .vertices) × (resultsOf h parents .count ≡ h .vertices)
   dist : (v : ℕ) → resultsOf h distances .first + v ≡ at .dist v
   parent : (v : ℕ) → resultsOf h parents .first + v ≡ at .parent v
@@ -205,7 +199,7 @@ module _ (h : Header) (ws : List ℕ) (at : Edges.Places) (is : OverEdges h ws a
         besides = rw (is .verdict) (λ z. besides (none z));
         rest = rw (is .count) (o .rest);
         exact = o .exact;
-        below-far = λ over. o .below-far;
+        below-far = rw (is .totals) (o .below-far);
         opened = rw (is .verdict) (ap (λ w. w ∷ []) (found .word));
       }
 
@@ -213,7 +207,7 @@ module _ (h : Header) (ws : List ℕ) (at : Edges.Places) (is : OverEdges h ws a
 
 pub left : (h : Header) → Accepted h → (ws : List ℕ) (start : List ℤ) → Given h ws start
     → Left h ws start (cellsAfter (drop 1 (planOf h)) start)
-unfolding verdictCell verdictOf networkOf namingOf sourcesOf besidesOf resultsOf cellsOf instructionsOf
+unfolding verdictCell verdictOf networkOf namingOf sourcesOf besidesOf totalBelow resultsOf cellsOf instructionsOf
 left =
     by-method
     (λ h. (ws : List ℕ) (start : List ℤ) → Given h ws start → Left h ws start (cellsAfter (drop 1 (planOf h)) start))
@@ -247,7 +241,7 @@ left =
       besides = λ e. tt;
       rest = o .rest;
       exact = o .exact;
-      below-far = λ over. absurd (two-not over);
+      below-far = o .below-far;
       opened = refl;
     })
     (λ n m source a ws start g.

@@ -5,9 +5,8 @@ use mathlib.Core.Logic.{_↔_, _⊎_, _≢_}
 use mathlib.Core.List.{List, [], _∷_, _++_}
 use mathlib.Core.Option.{none, some}
 use Prim.Native.Nat.{ℕ, _+_, _*_, _^_, _<_, _≤_}
-use lib.IntN.{ℤ, pos, _+ℤ_}
+use lib.IntN.{ℤ, pos}
 use lib.ListN.{length, getD, take, drop}
-use lib.Signed.{_<ℤ_}
 use Rattle.answers.specs.declared.Refusal.{Refusal}
 use Rattle.answers.specs.Refusal.{plain, placed}
 use Rattle.answers.specs.Told.{refused}
@@ -20,7 +19,7 @@ use Rattle.plans.specs.Plan.{cellsOf, instructionsOf, planOf, Kind, distances, 
 use Rattle.runner.specs.Runner.{logSize, runnerRefusal, planOutcome, planRounds, planLength, planLog}
 use Rattle.runner.specs.PlanWithin.{PlanWithin, NotAllowedAt, LogShort}
 use Rattle.limits.specs.Refusal.{logLengthOf}
-use Rattle.limits.specs.WithinLimits.{OneOf, headerIn, wordsIn, FirstBroken, publicLimits, WithinLimits, BrokenAt, BrokenLast}
+use Rattle.limits.specs.WithinLimits.{headerIn, wordsIn, FirstBroken, publicLimits, WithinLimits, BrokenAt, BrokenLast}
 use Rattle.intake.specs.Intake.{sourceOf, laid}
 use Rattle.graph.specs.Walk.{NegativeCycle}
 use Rattle.graph.specs.Shortest.{Distances, Parents, Shortest}
@@ -28,6 +27,7 @@ use Rattle.methods.specs.Bank.{Summed, Exact}
 use Rattle.demands.specs.Run.{Lent, lengthsOf, refusalOf, startOf, refusedBy, outcome}
 use Rattle.demands.specs.Network.{networkOf, namingOf, sourcesOf, CycleFrom}
 use Rattle.demands.specs.Besides.{besidesOf}
+use Rattle.demands.specs.Totals.{totalBelow}
 
 -- A request ran when it met no refusal, or 12 alone; 12 is told after the run.
 abbrev pub RanOn : (request : List ℕ) → Lent → Type 0
@@ -169,9 +169,8 @@ pub record Demand3 (request : List ℕ) (lent : Lent) : Type 0 where
       → resultOf request lent k i ≡ cellAt (outcome request lent .cells) (resultsOf (headerIn request) k .first + i)
   -- (e) Every ADD that is carried out gives the exact sum.
   pub exact : RanOn request lent → Exact (instructionsOf (headerIn request)) (startOf request lent)
-  -- In methods 1, 3 and 5 it adds a weight to a total: from a reached vertex that stays below FAR, whatever the verdict (document 02, ask 7).
-  pub below-far : RanOn request lent → OneOf (1 ∷ 3 ∷ 5 ∷ []) (headerIn request .method)
-      → Summed (λ x w. x ≢ far → (x +ℤ w) <ℤ far) (instructionsOf (headerIn request)) (startOf request lent)
+  -- Every total that it forms from a reached vertex is below FAR, whatever the verdict (document 02, ask 7).
+  pub below-far : RanOn request lent → Summed (totalBelow (headerIn request)) (instructionsOf (headerIn request)) (startOf request lent)
 
 -- ---- foreign plans: demands 1 and 3 of the runner
 

@@ -1,5 +1,8 @@
 -- The table of specs/Rules: the crates' tables, and the rows about outcomes by computing the definitions. Rests on those tables.
-use mathlib.Core.Path.{_≡_, refl, fun-ext}
+use mathlib.Core.Path.{_≡_, refl, ap, fun-ext}
+use mathlib.Core.Logic.{_≢_}
+use native.Mathlib.Omega.{arith}
+use lib.IntN.{pos, natAbs}
 use Rattle.answers.proofs.Facts as Answers
 use Rattle.fields.specs.Fields.{signedOf, bitsOf}
 use Rattle.machine.specs.Effect.{bit, wrapAdd, both, pick, perform}
@@ -28,6 +31,7 @@ use Rattle.intake.specs.Intake.{stripsOf, sourceOf, laid, copied, startingCells
 use Rattle.intake.proofs.Facts as Intake
 use Rattle.demands.specs.Run.{Outcome, verdictOf, outcome}
 use Rattle.demands.specs.Network.{sourcesOf}
+use Rattle.demands.specs.Totals.{totalBelow}
 use Rattle.saved.specs.Saved.{convertible, converted, savedRefusal, conversionOutcome}
 use Rattle.saved.proofs.Facts as Saved
 use Rattle.comparisons.proofs.Facts as Comparisons
@@ -37,8 +41,11 @@ use Rattle.facts.specs.Rules.{Rules}
 same : (o p : Outcome) → o .answer ≡ p .answer → o .cells ≡ p .cells → o .log ≡ p .log → ((k : Kind) → o .results k ≡ p .results k) → o ≡ p
 same o p a c l r = λ i. record { answer = a i; cells = c i; log = l i; results = fun-ext r i }
 
+near : pos 549755813786 ≢ pos 549755813887
+near e = omega (arith, ap natAbs e)
+
 pub rules : Rules
-unfolding signedOf bitsOf bit wrapAdd both pick perform packed packedSet decodeAt zerosKept present admissibleAt carry logged cellsAfter logFrom logOf withoutPublishedFrom withoutPublished sumOf greatestFrom decodeAll depthOf chargeOf flat instructions Method1.plan Method2.plan Method3.plan Method5.plan instructionsOf planOf cellsOf resultsOf lengthOf headerRefusal weightOf wordCountOf logLengthOf verdictCell sizesRefusal inRange edgeRefusal sortedRefusal entryRefusal wordRefusal wordsRefusal lastRefusal requestRefusal stripsOf sourceOf laid copied startingCells firstBad logSize runnerRefusal planOutcome verdictOf outcome sourcesOf convertible converted savedRefusal conversionOutcome
+unfolding signedOf bitsOf bit wrapAdd both pick perform packed packedSet decodeAt zerosKept present admissibleAt carry logged cellsAfter logFrom logOf withoutPublishedFrom withoutPublished sumOf greatestFrom decodeAll depthOf chargeOf flat instructions Method1.plan Method2.plan Method3.plan Method5.plan instructionsOf planOf cellsOf resultsOf lengthOf headerRefusal weightOf wordCountOf logLengthOf verdictCell sizesRefusal inRange edgeRefusal sortedRefusal entryRefusal wordRefusal wordsRefusal lastRefusal requestRefusal stripsOf sourceOf laid copied startingCells firstBad logSize runnerRefusal planOutcome verdictOf outcome sourcesOf totalBelow convertible converted savedRefusal conversionOutcome
 rules =
     record {
       answers = Answers.facts;
@@ -72,5 +79,14 @@ rules =
       refuses = refl;
       untouched = same _ _ refl refl refl (each-kind _ refl refl refl);
       untouched5 = same _ _ refl refl refl (each-kind _ refl refl refl);
+      totals = (
+        λ f. f near .lt,
+        λ f. f near (λ e. omega (arith, ap natAbs e)) .lt,
+        λ f. f near .lt,
+        λ f. f near .lt,
+        λ x. record { lt = tt },
+        λ x. absurd (x refl),
+        λ x w. absurd (w refl),
+      );
       sources = (refl, refl, refl, refl);
     }

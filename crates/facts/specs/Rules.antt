@@ -21,6 +21,7 @@ use Rattle.runner.specs.Facts as Runner
 use Rattle.runner.specs.Runner.{planOutcome}
 use Rattle.demands.specs.Run.{Lent, outcome}
 use Rattle.demands.specs.Network.{sourcesOf}
+use Rattle.demands.specs.Totals.{totalBelow}
 use Rattle.saved.specs.Saved.{conversionOutcome}
 use Rattle.saved.specs.Facts as Saved
 use Rattle.comparisons.specs.Facts as Comparisons
@@ -140,6 +141,15 @@ pub record Rules : Type 0 where
             ++ (0x40000B0000800005 ∷ 0x6000110000B00003 ∷ 0x6000070000B00010 ∷ 0x7000000000D00000 ∷ 0 ∷ 9 ∷ []);
         results = byKind (pos 0 ∷ pos 549755813887 ∷ pos 9 ∷ []) (negsuc 0 ∷ negsuc 0 ∷ pos 9 ∷ []) (negsuc 0 ∷ pos 9 ∷ []);
       }
+  -- "must be shown below it": of a reached yard's total and a price, in every method, a sum of FAR is not, one less is; from an unreached yard, or
+  -- in method 2 where there is no lane, nothing is said.
+  pub totals : (¬ totalBelow (headerOf 0x1000010000000000) (pos 549755813786) (pos 101))
+      × (¬ totalBelow (headerOf 0x2000010000000000) (pos 549755813786) (pos 101))
+      × (¬ totalBelow (headerOf 0x3000010000000000) (pos 549755813786) (pos 101))
+      × (¬ totalBelow (headerOf 0x5000010000000000) (pos 549755813786) (pos 101))
+      × totalBelow (headerOf 0x1000010000000000) (pos 549755813786) (pos 100)
+      × totalBelow (headerOf 0x1000010000000000) (pos 549755813887) (pos 100)
+      × totalBelow (headerOf 0x2000010000000000) (pos 100) (pos 549755813887)
   -- The sources that distances are from: the header's, in every method.
   pub sources : (sourcesOf (headerOf 0x1000200008000007) ≡ 7 ∷ [])
       × (sourcesOf (headerOf 0x2000200000000013) ≡ 19 ∷ [])

@@ -5,6 +5,7 @@ use mathlib.Core.Logic.{_⊎_, inl, inr, _≢_}
 use mathlib.Core.Bool.{Bool, true, false, cond, true≢false, and-eq-true-iff}
 use mathlib.Core.List.{List, [], _∷_}
 use Prim.Native.Nat.{ℕ, zero, suc, _+_, _*_, _≤_, _<_}
+use native.Mathlib.Nat.{mul-le-mul-right}
 use native.Mathlib.Omega.{arith}
 use native.Mathlib.Decide.{ℕ-discrete, decLt}
 use borrow.Author.Tests.{ltb-true, ltb-false, eqb-true, le-ltb, eq-eqb, ne-eqb}
@@ -284,15 +285,25 @@ module _ (far limit n source : ℕ) (table : ℕ → ℕ → ℕ) where
         go i nobody h = idle st c i h
         go i (picked u l o d) h = busy st c i u l o d h
 
-    -- Each distance is far, or at most a weight for each turn.
-    pub within : (t v : ℕ) → v < n → (turns far table n source t .dist v ≡ far) ⊎ (turns far table n source t .dist v ≤ t * limit)
-    within t v l =
-        elim (decLt (turns far table n source t .dist v) far) [
-          | yes h ↦ inr (throughout t .small v l h)
-          | no h ↦ inl (omega (arith, throughout t .low v))
-        ]
-
     module _ (room : n * limit < far) where
+      -- What a turn adds to the nearest distance: where both are there, their total is below far.
+      pub totals-below : (t : ℕ) → t < n → (j : ℕ) → j < n →
+          (best far (turns far table n source t) n ≡ far)
+          ⊎ (rowOf far table (who far (turns far table n source t) n) j ≡ far)
+          ⊎ (best far (turns far table n source t) n + rowOf far table (who far (turns far table n source t) n) j < far)
+      totals-below t lt j l = go (pick far st n .0)
+        where
+          st : State
+          st = turns far table n source t
+
+          go : {b : ℕ} {w : ℤ} → Picked far st n b w → (b ≡ far) ⊎ (rowOf far table w j ≡ far) ⊎ (b + rowOf far table w j < far)
+          go nobody = inl refl
+          go (picked u lu o d) =
+              elim (entry u j lu l) [
+                | inl q ↦ inr (inr (omega (arith, throughout t .small u lu d, mul-le-mul-right {m = suc t} {n = n} limit lt)))
+                | inr q ↦ inr (inl q)
+              ]
+
       abbrev end : State
       end = turns far table n source n
 

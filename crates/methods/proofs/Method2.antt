@@ -14,7 +14,7 @@ use Rattle.plans.specs.Method2 as Method2
 use Rattle.plans.proofs.Addresses.{Kept}
 use Rattle.graph.specs.Dijkstra.{tableNetwork, fromVertex, State, turns}
 use Rattle.graph.proofs.Parents.{carried}
-use Rattle.graph.proofs.Dijkstra.{dijkstra}
+use Rattle.graph.proofs.Dijkstra.{totals-below, dijkstra}
 use Rattle.methods.specs.Bank.{performAll, Summed}
 use Rattle.methods.specs.Method2.{Room, Laid, Solved, plan}
 use Rattle.methods.proofs.Sums.{summed-map}
@@ -50,11 +50,11 @@ module _ (far limit : ℕ) (table : ℕ → ℕ → ℕ) (n source : ℕ) (cells
   given : Given table n (λ a. cellAt cells (layout n .place a))
   given = laid .entry
 
-  ran : Summed Sum (plan far n source) cells × Ended same (layout n) cells (laid .enough) End left
+  ran : Summed (Sum far) (plan far n source) cells × Ended same (layout n) cells (laid .enough) End left
   unfolding Method2.plan
   ran =
-      on-bank same (layout n) cells (laid .enough) Sum End pair (pos far) n 0 source outline (kept (pos far) n)
-      (plan-runs far table n source most (room .fits) _ given)
+      on-bank same (layout n) cells (laid .enough) (Sum far) End pair (pos far) n 0 source outline (kept (pos far) n)
+      (plan-runs far table n source most (room .fits) (totals-below far limit n source table (laid .entry-most) (room .deep)) _ given)
 
   dist : (v : ℕ) → v < n → cellAt left (cell (starts n) (D v)) ≡ pos (final .dist v)
   dist v l = ran .1 .mirrored .cell (D v) (omega arith) ∙ ran .1 .meets .dist v l
@@ -70,5 +70,6 @@ module _ (far limit : ℕ) (table : ℕ → ℕ → ℕ) (n source : ℕ) (cells
             (laid .source-below) parent (dijkstra far limit n source table (laid .entry-most) (room .deep));
         rest = λ k l. ran .1 .mirrored .rest k (omega arith);
         long = ran .1 .mirrored .long;
-        exact = summed-map Sum _ sum-exact (plan far n source) cells (ran .0);
+        exact = summed-map (Sum far) _ (λ x w h. sum-exact x w (h .0)) (plan far n source) cells (ran .0);
+        below-far = summed-map (Sum far) _ (λ x w h. h .1) (plan far n source) cells (ran .0);
       }

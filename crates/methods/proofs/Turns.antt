@@ -1,11 +1,13 @@
 -- Method 2's plan on named stores is Dijkstra's n turns.
 -- Rests on stores, names, bits and filled regions.
 use mathlib.Core.Path.{_≡_, refl, ap, _∙_}
+use mathlib.Core.Logic.{_⊎_, inl, inr, _≢_}
 use mathlib.Core.Bool.{cond}
 use Prim.Native.Nat.{ℕ, suc, _+_, _*_, _^_, _<_, _≤_}
 use native.Mathlib.Omega.{arith}
 use lib.Dec.{eqb}
-use lib.IntN.{ℤ, pos, negsuc, natAbs}
+use lib.IntN.{ℤ, pos, negsuc, natAbs, _+ℤ_}
+use lib.Signed.{_<ℤ_}
 use Rattle.machine.specs.Instruction.{Instruction}
 use Rattle.machine.specs.Effect.{eqZ, bit, wrapAdd}
 use Rattle.plans.specs.Outline.{middle, Outline, counted-to, start, instructions}
@@ -13,6 +15,7 @@ use Rattle.plans.specs.Method2.{U, D, P, Y, O, R, X, fetch, turn, plan}
 use Rattle.plans.specs.declared.Counters.{Counters}
 use Rattle.graph.specs.Dijkstra as Dijkstra
 use Rattle.graph.specs.Dijkstra.{State, begin, best, who, rowOf, isVertex, turns}
+use Rattle.graph.proofs.Int.{arithℤ}
 use Rattle.graph.proofs.Dijkstra.{Picked, nobody, picked, pick, sum-bound}
 use Rattle.methods.proofs.Steps.{Claim, Kind, Runs, loop}
 use Rattle.methods.proofs.Stores.{numbers}
@@ -20,13 +23,18 @@ use Rattle.methods.proofs.Names.{Name, same, pair, Store}
 use Rattle.methods.proofs.Bits.{both-bit, pick-bit, cond-ap, cond-zero, sum-exact}
 use Rattle.methods.proofs.Filled.{upto, upto-zero, upto-here, upto-all, upto-suc, upto-find, fill-none, fill}
 
--- The sums that the method forms.
-abbrev pub Sum : ℤ → ℤ → Type 0
-Sum x y = natAbs x + natAbs y < 2 ^ 63
+-- The sums that the method forms: they fit a cell, and of a distance and a weight that are there they are below far.
+abbrev pub Sum : (far : ℕ) → ℤ → ℤ → Type 0
+Sum far x w = (natAbs x + natAbs w < 2 ^ 63) × (x ≢ pos far → w ≢ pos far → (x +ℤ w) <ℤ pos far)
 
 -- The instructions as steps on named stores.
-abbrev pub steps : Kind (Instruction Name) Store
-steps = numbers same Sum
+abbrev pub steps : (far : ℕ) → Kind (Instruction Name) Store
+steps far = numbers same (Sum far)
+
+apart : (far b r : ℕ) → (b ≡ far) ⊎ (r ≡ far) ⊎ (b + r < far) → pos b ≢ pos far → pos r ≢ pos far → (pos b +ℤ pos r) <ℤ pos far
+apart far b r (inl e) x w = absurd (x (ap pos e))
+apart far b r (inr (inl e)) x w = absurd (w (ap pos e))
+apart far b r (inr (inr l)) x w = omega arithℤ
 
 -- ---- the chosen vertex, and its row
 
@@ -82,7 +90,7 @@ module _ (far : ℕ) (table : ℕ → ℕ → ℕ) (n : ℕ) where
 module _ (far : ℕ) (table : ℕ → ℕ → ℕ) (n source : ℕ) (most : (u j : ℕ) → u < n → j < n → table u j ≤ far)
     (fits : far + far < 2 ^ 63) where
   abbrev Does : Outline → Counters → Claim Store → Claim Store
-  Does o k = Runs steps (instructions pair (pos far) n 0 source o k)
+  Does o k = Runs (steps far) (instructions pair (pos far) n 0 source o k)
 
   -- ---- a turn
 
@@ -135,7 +143,7 @@ module _ (far : ℕ) (table : ℕ → ℕ → ℕ) (n source : ℕ) (most : (u j
         let y = h .fixed .vertex k l in
         let z = h .fixed .zero in
         let o : t (O k) ≡ bit (st .unseen k) = h .unseen k l ∙ ap bit (upto-here (next .unseen) (st .unseen) k) in
-        loop steps (Fetching k) n _ _ _ (
+        loop (steps far) (Fetching k) n _ _ _ (
           record {
             fixed = h .fixed;
             dist = h .dist;
@@ -175,10 +183,11 @@ module _ (far : ℕ) (table : ℕ → ℕ → ℕ) (n source : ℕ) (most : (u j
     Relaxed k t =
         Holds far table n (mix k) t × (t (X 1) ≡ pos b) × (t (X 3) ≡ w) × ((j : ℕ) → j < n → t (R j) ≡ pos (row j))
 
-    turn-runs : (s : Store) → Holds far table n st s → Does turn start (Holds far table n next) s
+    turn-runs : ((j : ℕ) → j < n → (b ≡ far) ⊎ (row j ≡ far) ⊎ (b + row j < far)) → (s : Store) → Holds far table n st s
+        → Does turn start (Holds far table n next) s
     unfolding instructions
-    turn-runs s h =
-        loop steps Chosen n _ _ _ (h, h .fixed .far, refl)
+    turn-runs near s h =
+        loop (steps far) Chosen n _ _ _ (h, h .fixed .far, refl)
         (λ k t l (h, x1, x3).
         let d = h .dist k l in
         let o = h .unseen k l in (
@@ -187,10 +196,10 @@ module _ (far : ℕ) (table : ℕ → ℕ → ℕ) (n source : ℕ) (most : (u j
           simp (both-bit, pick-bit, d, o, h .fixed .vertex k l, x1, x3),
         ))
         (λ t (h, x1, x3).
-        loop steps Cleared n _ _ _ (h, x1, x3, fill-none _ _)
+        loop (steps far) Cleared n _ _ _ (h, x1, x3, fill-none _ _)
         (λ k t l (h, x1, x3, r). (h, x1, x3, fill k (h .fixed .far) r))
         (λ t (h, x1, x3, r).
-        loop steps Fetched n _ _ _ (
+        loop (steps far) Fetched n _ _ _ (
           record {
             fixed = h .fixed;
             dist = h .dist;
@@ -203,7 +212,7 @@ module _ (far : ℕ) (table : ℕ → ℕ → ℕ) (n source : ℕ) (most : (u j
         )
         fetch-runs
         (λ t (h, x1, x3, r).
-        loop steps Relaxed n _ _ _ (
+        loop (steps far) Relaxed n _ _ _ (
           record {
             fixed = h .fixed;
             dist = λ v l. h .dist v l ∙ ap pos (upto-zero (next .dist) (st .dist) v);
@@ -219,7 +228,7 @@ module _ (far : ℕ) (table : ℕ → ℕ → ℕ) (n source : ℕ) (most : (u j
         let sum : wrapAdd (pos b) (pos (row k)) ≡ pos (b + row k) = sum-exact (pos b) (pos (row k)) small in
         let d : t (D k) ≡ pos (st .dist k) = h .dist k l ∙ ap pos (upto-here (next .dist) (st .dist) k) in
         let p : t (P k) ≡ st .parent k = h .parent k l ∙ upto-here (next .parent) (st .parent) k in (
-          rw (x1, r k l) small,
+          rw (x1, r k l) (small, apart far b (row k) (near k l)),
           (
             record {
               fixed = h .fixed;
@@ -260,19 +269,23 @@ module _ (far : ℕ) (table : ℕ → ℕ → ℕ) (n source : ℕ) (most : (u j
       × ((v : ℕ) → v < k → t (P v) ≡ first .parent v)
       × ((v : ℕ) → v < k → t (O v) ≡ bit (first .unseen v))
 
-  pub plan-runs : (s : Store) → Given table n s
-      → Runs steps (plan pair (pos far) n source) (Holds far table n (turns far table n source n)) s
+  pub plan-runs : ((t : ℕ) → t < n → (j : ℕ) → j < n
+      → (b (turns far table n source t) ≡ far)
+      ⊎ (row (turns far table n source t) j ≡ far)
+      ⊎ (b (turns far table n source t) + row (turns far table n source t) j < far))
+      → (s : Store) → Given table n s
+      → Runs (steps far) (plan pair (pos far) n source) (Holds far table n (turns far table n source n)) s
   unfolding plan instructions bit
-  plan-runs s h =
-      loop steps Opened n _ _ _ (h, fill-none _ _, fill-none _ _, fill-none _ _, fill-none _ _)
+  plan-runs near s h =
+      loop (steps far) Opened n _ _ _ (h, fill-none _ _, fill-none _ _, fill-none _ _, fill-none _ _)
       (λ k t l (h, y, d, p, o). (h, fill k refl y, fill k (cond-ap pos (eqb k source) 0 far) d, fill k refl p, fill k refl o))
       (λ t (h, y, d, p, o).
-      loop steps (λ k. Holds far table n (turns far table n source k)) n _ _ _
+      loop (steps far) (λ k. Holds far table n (turns far table n source k)) n _ _ _
       (record {
         fixed = record { entry = h; vertex = y; far = refl; zero = refl };
         dist = d;
         parent = p;
         unseen = o;
       })
-      (λ k t l. turn-runs (turns far table n source k) t)
+      (λ k t l. turn-runs (turns far table n source k) (near k l) t)
       (λ t h. h))

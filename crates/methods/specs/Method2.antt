@@ -1,11 +1,12 @@
 -- Method 2 on a bank: what it is given, and what it leaves.
 -- Rests on its plan and on what is shortest.
 use mathlib.Core.Path.{_≡_}
-use mathlib.Core.Logic.{_⊎_}
+use mathlib.Core.Logic.{_⊎_, _≢_}
 use mathlib.Core.List.{List}
 use Prim.Native.Nat.{ℕ, _+_, _*_, _^_, _<_, _≤_}
-use lib.IntN.{ℤ, pos}
+use lib.IntN.{ℤ, pos, _+ℤ_}
 use lib.ListN.{length}
+use lib.Signed.{_<ℤ_}
 use Rattle.machine.specs.Instruction.{Instruction}
 use Rattle.machine.specs.Effect.{cellAt}
 use Rattle.plans.specs.Regions.{address, cell}
@@ -13,7 +14,7 @@ use Rattle.plans.specs.Method2 as Method2
 use Rattle.plans.specs.Method2.{U, D, P, starts, cellCount}
 use Rattle.graph.specs.Shortest.{Shortest}
 use Rattle.graph.specs.Dijkstra.{tableNetwork, fromVertex}
-use Rattle.methods.specs.Bank.{Exact}
+use Rattle.methods.specs.Bank.{Summed, Exact}
 
 -- `far` lies above what n edges can sum up to; and every sum fits a cell.
 pub record Room (far limit n : ℕ) : Type 0 where
@@ -37,3 +38,5 @@ pub record Solved (far : ℕ) (table : ℕ → ℕ → ℕ) (n source : ℕ) (ce
   pub rest : (k : ℕ) → cellCount n ≤ k → cellAt left k ≡ cellAt cells k
   pub long : length left ≡ length cells
   pub exact : Exact (plan far n source) cells
+  -- Each ADD takes a distance and an entry of the table: of a reached vertex and an edge that is there the total is below `far`.
+  pub below-far : Summed (λ x w. x ≢ pos far → w ≢ pos far → (x +ℤ w) <ℤ pos far) (plan far n source) cells
