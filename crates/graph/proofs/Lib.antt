@@ -1,4 +1,4 @@
--- The theorems on Bellman-Ford, in place and by Jacobi passes, on Dijkstra and on routes, and what they rest on, in order.
+-- The theorems on Bellman-Ford, in place and by Jacobi passes, on Dijkstra, on routes and on other weights, and what they rest on, in order.
 -- Rests on the definitions.
 pub mod Int
 pub mod Pigeon

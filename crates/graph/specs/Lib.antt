@@ -1,4 +1,4 @@
--- The definitions: walks, what distances and parents have to be, Bellman-Ford in place and by Jacobi passes, Dijkstra, routes.
+-- The definitions: walks, what distances and parents have to be, Bellman-Ford in place and by Jacobi passes, Dijkstra, routes, other weights.
 -- Rests on the toolchain's library alone.
 pub mod Walk
 pub mod Shortest
