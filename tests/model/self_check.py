@@ -238,7 +238,7 @@ def check_fields(checks):
                      "lane fields")
         checks.equal(model.split_table_entry(model.join_table_entry(entry)),
                      entry, "table fields")
-    for number in (-1 << 39, -1, 0, FAR, (1 << 39) - 1):
+    for number in (-1 << 39, -1, 0, 1 << 38, (1 << 39) - 1):
         cells = [0]
         model.carry_out(cells, *model.set_to(0, number))
         checks.equal(cells, [number], "constant of SET")

@@ -13,6 +13,7 @@ use Rattle.plans.specs.Plan.{Accepted}
 use Rattle.plans.proofs.Headers.{by-method}
 use Rattle.limits.specs.Word.{placedCount, weightOf}
 use Rattle.graph.specs.Walk.{Edge}
+use Rattle.graph.specs.BellmanFord.{network, numbered}
 use Rattle.graph.specs.Dijkstra.{fromVertex}
 use Rattle.graph.specs.Reweighed.{Weighed, Reweighed, Renamed, scaled}
 use Rattle.graph.proofs.Product.{times-abs}
@@ -24,9 +25,15 @@ use Rattle.comparisons.specs.Hundredfold.{EdgeHundredfold, EntryHundredf
 no-hundredfold : (z : ℤ) → pos 100 *ℤ z ≢ negsuc 0
 no-hundredfold z e = omega (arith, times-abs 100 z, ap natAbs e)
 
-edges-weighed : (ws ws′ : List ℕ) (m : ℕ) → ((i : ℕ) → i < m → EdgeHundredfold (getD ws i 0) (getD ws′ i 0))
-    → (i : ℕ) → i < m → Weighed (scaled 100) (edgeOf ws i) (edgeOf ws′ i)
-edges-weighed ws ws′ m each i l = let p = each i l in record { begins = p .from; ends = p .to; weighs = p .weight }
+module _ (m : ℕ) (ws ws′ : List ℕ) (each : (i : ℕ) → i < m → EdgeHundredfold (getD ws i 0) (getD ws′ i 0)) where
+  edges-weighed : (i : ℕ) → i < m → Weighed (scaled 100) (edgeOf ws i) (edgeOf ws′ i)
+  edges-weighed i l = let p = each i l in record { begins = p .from; ends = p .to; weighs = p .weight }
+
+  edges-reweighed : Reweighed (scaled 100) (network (edgeOf ws) m) (network (edgeOf ws′) m)
+  edges-reweighed = row-reweighed (scaled 100) (edgeOf ws) (edgeOf ws′) m edges-weighed
+
+  edges-renamed : Renamed (scaled 100) (numbered (edgeOf ws) m) (numbered (edgeOf ws′) m)
+  edges-renamed = row-renamed (scaled 100) (edgeOf ws) (edgeOf ws′) m edges-weighed
 
 module _ (n : ℕ) (ws ws′ : List ℕ) (each : (i : ℕ) → i < n * n → EntryHundredfold (getD ws i 0) (getD ws′ i 0)) where
   at : (u v : ℕ) → u < n → v < n → EntryHundredfold (getD ws (u * n + v) 0) (getD ws′ (u * n + v) 0)
@@ -67,16 +74,16 @@ pub networks : (h : Header) → Accepted h → (ws ws′ : List ℕ) → Words h
 unfolding networkOf
 networks =
     by-method (λ h. (ws ws′ : List ℕ) → Words h ws ws′ → Reweighed (scaled 100) (networkOf h ws) (networkOf h ws′))
-    (λ n m source a ws ws′ each. row-reweighed (scaled 100) (edgeOf ws) (edgeOf ws′) m (edges-weighed ws ws′ m each))
-    (λ n source a ws ws′ each. table-reweighed n ws ws′ each)
-    (λ n m source a ws ws′ each. row-reweighed (scaled 100) (edgeOf ws) (edgeOf ws′) m (edges-weighed ws ws′ m each))
-    (λ n m source a ws ws′ each. row-reweighed (scaled 100) (edgeOf ws) (edgeOf ws′) m (edges-weighed ws ws′ m each))
+    (λ n m source a. edges-reweighed m)
+    (λ n source a. table-reweighed n)
+    (λ n m source a. edges-reweighed m)
+    (λ n m source a. edges-reweighed m)
 
 pub namings : (h : Header) → Accepted h → (ws ws′ : List ℕ) → Words h ws ws′ → Renamed (scaled 100) (namingOf h ws) (namingOf h ws′)
 unfolding namingOf
 namings =
     by-method (λ h. (ws ws′ : List ℕ) → Words h ws ws′ → Renamed (scaled 100) (namingOf h ws) (namingOf h ws′))
-    (λ n m source a ws ws′ each. row-renamed (scaled 100) (edgeOf ws) (edgeOf ws′) m (edges-weighed ws ws′ m each))
+    (λ n m source a. edges-renamed m)
     (λ n source a ws ws′ each. from-renamed (scaled 100))
-    (λ n m source a ws ws′ each. row-renamed (scaled 100) (edgeOf ws) (edgeOf ws′) m (edges-weighed ws ws′ m each))
-    (λ n m source a ws ws′ each. row-renamed (scaled 100) (edgeOf ws) (edgeOf ws′) m (edges-weighed ws ws′ m each))
+    (λ n m source a. edges-renamed m)
+    (λ n m source a. edges-renamed m)

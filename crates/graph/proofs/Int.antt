@@ -9,7 +9,7 @@ use borrow.Author.Tests.{ltb-true, ltb-false}
 use lib.IntN.{ℤ, pos, negsuc, natAbs, subℕ, _+ℤ_}
 use lib.Signed.{ltZ, leZ, _≤ℤ_, _<ℤ_, ltZ-yes, ltZ-no}
 use lib.Dec.{T, ltb, leb→le, le→leb, ltb→lt, lt→ltb}
-use Rattle.lists.proofs.Test.{by-test}
+use Rattle.lists.proofs.Test.{by-test, holds}
 
 abbrev pub up : ℤ → ℕ
 up (pos n) = n
@@ -91,7 +91,7 @@ pub ltZ-false : {a b : ℤ} → ltZ a b ≡ false → b ≤ℤ a
 ltZ-false e = ltZ-no (rw e tt)
 
 pub lt-ltZ : {a b : ℤ} → a <ℤ b → ltZ a b ≡ true
-lt-ltZ {a} {b} h = by-test (ltZ a b) (λ e. e) (λ e. absurd (rw e at (h .lt)))
+lt-ltZ {a} {b} h = holds (ltZ a b) (h .lt)
 
 pub le-or-lt : (a b : ℤ) → (a ≤ℤ b) ⊎ (b <ℤ a)
 le-or-lt a b = by-test (ltZ b a) (λ e. inr (ltZ-true e)) (λ e. inl (ltZ-false e))

@@ -13,7 +13,7 @@ use lib.ListN.{length, getD, set, drop, length-map, length-set, drop-of-length-l
 use lib.Seq.{drop-cons, sets, drop-set-lt}
 use lib.Signed.{mag}
 use borrow.Author.Tests.{not-true, not-false}
-use Rattle.lists.proofs.Test.{by-test}
+use Rattle.lists.proofs.Test.{holds}
 use Rattle.lists.proofs.Filled.{from-start}
 use Rattle.answers.specs.declared.Refusal.{Refusal}
 use Rattle.answers.specs.declared.Checked.{Checked}
@@ -84,7 +84,7 @@ module _ (saved₀ saved : List ℤ) (k : ℕ) (h : Halfway saved₀ saved k) wh
     left = need-none (convertible (getD saved k (pos 0))) (Weight k) _ .0 (sym (first saved k l) ∙ h .fine)
 
     pub good : convertible (getD saved k (pos 0)) ≡ true
-    good = by-test (convertible (getD saved k (pos 0))) (λ e. e) (λ e. absurd (rw e at (left .0)))
+    good = holds (convertible (getD saved k (pos 0))) (left .0)
 
     -- z is what word k became.
     pub onward : (z : ℤ) → z ≡ converted (getD saved k (pos 0)) → Halfway saved₀ (set saved k z) (k + 1)

@@ -4,15 +4,15 @@ use mathlib.Core.Logic.{_↔_, _⊎_, inl, inr, _≢_}
 use mathlib.Core.Bool.{true, false, and-eq-true-iff, true≢false}
 use mathlib.Core.List.{List, [], _∷_, map}
 use mathlib.Core.Option.{none, some, Option·some-injective}
-use Prim.Native.Nat.{ℕ, zero, suc, _+_, _-_, _<_, _≤_}
+use Prim.Native.Nat.{ℕ, zero, suc, _+_, _-_, _<_}
 use native.Mathlib.Nat.{zero-add}
 use native.Mathlib.Omega.{arith}
 use lib.Dec.{ltb}
 use lib.IntN.{ℤ, pos, negsuc}
 use lib.ListN.{length, getD, length-map, List·getD-map}
-use lib.Signed.{leZ, _≤ℤ_, leZ-yes}
+use lib.Signed.{leZ, leZ-yes}
 use borrow.Author.Tests.{ltb-true, ltb-false}
-use Rattle.lists.proofs.Test.{by-test}
+use Rattle.lists.proofs.Test.{by-test, holds}
 use Rattle.answers.specs.Refusal.{Weight}
 use Rattle.answers.specs.Told.{Told}
 use Rattle.machine.specs.Effect.{eqZ}
@@ -21,9 +21,6 @@ use Rattle.saved.specs.Saved.{oldFar, oldMost, convertible, converted, s
 use Rattle.saved.specs.Converts.{OfOld, AllOfOld, LowestAt, Converts}
 
 -- ---- one word
-
-is-true : {a b : ℤ} → a ≤ℤ b → leZ a b ≡ true
-is-true {a} {b} h = by-test (leZ a b) (λ e. e) (λ e. absurd (rw e at (h .le)))
 
 of-old : (z : ℤ) → (convertible z ≡ true) ↔ OfOld z
 unfolding convertible
@@ -36,7 +33,7 @@ of-old z =
           inr (leZ-yes (rw low tt), leZ-yes (rw high tt)),
       λ o. rw e (elim o [
         | inl q ↦ absurd (true≢false (sym (equal z oldFar .1 q) ∙ e))
-        | inr p ↦ rw (is-true (p .0), is-true (p .1))
+        | inr p ↦ rw (holds (leZ (negsuc (oldMost - 1)) z) (p .0 .le), holds (leZ z (pos oldMost)) (p .1 .le))
       ]),
     ))
 

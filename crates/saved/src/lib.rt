@@ -10,13 +10,13 @@ ghost use Rattle.answers.specs.Refusal.{found};
 ghost use Rattle.saved.specs.Saved.{convertible, converted, savedRefusal, conversionOutcome, MetConversion};
 
 // The mark of an unreached vertex as it was.
-pub const OLD_FAR: i64 = 274877906944;
+const OLD_FAR: i64 = 274877906944;
 
 // The greatest distance either way as it was: of 31 edges at 1,000,000.
-pub const OLD_MOST: i64 = 31000000;
+const OLD_MOST: i64 = 31000000;
 
 // How many of today's units the old one is.
-pub const FACTOR: i64 = 100;
+const FACTOR: i64 = 100;
 
 // What a conversion answers.
 pub enum Conversion {
