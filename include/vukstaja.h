@@ -21,8 +21,8 @@ enum {
     VUKSTAJA_PLAN_LENGTH = 3, /* of a written plan */
     VUKSTAJA_CELLS = 3,       /* of the sizes: cells */
     VUKSTAJA_LOG = 4,         /* words of the log, which are enough for the plan too */
-    VUKSTAJA_DISTANCES = 5,   /* places of distances */
-    VUKSTAJA_PARENTS = 6,     /* places of parents */
+    VUKSTAJA_DISTANCES = 5,   /* places of distances: n, in method 4 n * n */
+    VUKSTAJA_PARENTS = 6,     /* places of parents: n, in method 4 none */
     VUKSTAJA_ROUTE = 7        /* places of the route, 0 in every method but 5 */
 };
 
@@ -33,7 +33,10 @@ extern "C" {
 #endif
 
 /* Runs a request. With 0 cells, log, distances and parents are the run's; with 12 only cells and log; else nothing is changed.
- * The route is looked at in method 5 only, and is the run's with 0: the edges' numbers, the last edge first, then -1. */
+ * The route is looked at in method 5 only, and is the run's with 0: the edges' numbers, the last edge first, then -1.
+ * In method 4 the distances are a table of n rows, distances[i * n + j] that of vertex j from vertex i, and 12 is the answer to
+ * a loss circle anywhere. It has no parents: their buffer is not looked at, may have any length, 0 too, and stays as it is; its
+ * pointer must not be null even so. */
 void vukstaja_run(const uint64_t *request, size_t request_length,
                   int64_t *cells, size_t cells_length,
                   uint64_t *log, size_t log_length,

@@ -21,19 +21,21 @@ TEXT_FORMAT = """\
 The text, line by line; what follows a # and blank lines are passed over:
 
   method 1          1 (Bellman-Ford over lanes), 2 (Dijkstra over a table),
-                    3 (Bellman-Ford over lanes sorted by to-yard) or
+                    3 (Bellman-Ford over lanes sorted by to-yard),
+                    4 (Floyd-Warshall over lanes: totals from every yard) or
                     5 (as 1, with the lanes of the route to one yard)
   yards 2           how many yards there are, 1 to 32; they are numbered from 0
-  source 0          the yard from which routes start
+  source 0          the yard from which routes start; in method 4 it is 0, and
+                    this line may be left out
   destination 1     method 5: the yard whose route is shown
-  lane 0 1 -5       methods 1, 3 and 5: from-yard, to-yard and price, at most
+  lane 0 1 -5       methods 1, 3, 4 and 5: from-yard, to-yard and price, at most
                     128 lanes; the first one is lane 0, the next lane 1, and so
                     on; in method 3 no to-yard is below that of the lane before
                     it
   row 0 7           method 2: the prices from one yard to each yard, a row for
   row - 0           each yard, yard 0 first; - (or -1) where there is no lane
 
-Prices go from -100000000 to 100000000 in methods 1, 3 and 5, from 0 to
+Prices go from -100000000 to 100000000 in methods 1, 3, 4 and 5, from 0 to
 100000000 in method 2. Every number is whole, in decimal digits, with - before
 them if it is negative.
 
@@ -73,20 +75,6 @@ class Complaint(NamedTuple):
         return f"line {self.number}: {self.wrong}, expected {self.expected}"
 
 
-class Choice(NamedTuple):
-    """Some numbers, one by one."""
-
-    numbers: tuple
-
-    def __str__(self):
-        *others, last = map(str, self.numbers)
-        return f"{', '.join(others)} or {last}"
-
-    def takes(self, value):
-        """Whether this text writes one of the numbers."""
-        return is_short_number(value) and int(value) in self.numbers
-
-
 class Range(NamedTuple):
     """The numbers from `low` to `high`, and a remark for the reader of a message."""
 
@@ -95,7 +83,8 @@ class Range(NamedTuple):
     remark: str = ""
 
     def __str__(self):
-        return f"{self.low} to {self.high}{self.remark}"
+        numbers = f"{self.low} to {self.high}" if self.low < self.high else str(self.low)
+        return numbers + self.remark
 
     def takes(self, value):
         """Whether this text writes a number of the range."""
@@ -105,7 +94,7 @@ class Range(NamedTuple):
 class Limits(NamedTuple):
     """Which numbers the text may give."""
 
-    method: Range | Choice
+    method: Range
     vertices: Range
     edges: Range
     source: Range
@@ -168,7 +157,7 @@ BIT_FIELDS = Limits(
 
 # Document 01's own limits, for as long as the number of vertices is not known.
 RULES = Limits(
-    method=Choice((1, 2, 3, 5)),
+    method=Range(1, 5),
     vertices=Range(1, 32),
     edges=Range(0, 128),
     source=Range(0, 31),
@@ -179,14 +168,19 @@ RULES = Limits(
 )
 
 
-def limits_for(vertices, unchecked):
-    """Which numbers a text with so many vertices may give, or one that does not say how many."""
+# Method 4 has a source in its header, but no other than this one.
+SOURCE_OF_METHOD_4 = Range(0, 0, " (method 4 gives totals from every yard)")
+
+
+def limits_for(method, vertices, unchecked):
+    """Which numbers a text of this method with so many vertices may give, or one that does not say either."""
     if unchecked:
         return BIT_FIELDS
-    if vertices is None:
-        return RULES
-    below = Range(0, vertices - 1)
-    return RULES._replace(source=below, destination=below, vertex=below)
+    limits = RULES
+    if vertices is not None:
+        below = Range(0, vertices - 1)
+        limits = limits._replace(source=below, destination=below, vertex=below)
+    return limits._replace(source=SOURCE_OF_METHOD_4) if method == 4 else limits
 
 
 def is_number(value):
@@ -235,6 +229,12 @@ def form_complaints(lines):
 def given_once(method):
     """The keywords that a text of this method gives once, or one whose method is not known."""
     return (*HEADER, "destination") if method == 5 else HEADER
+
+
+def needed(lines, method):
+    """The keywords that the text has to give; in method 4, checked or not, the source may be left out."""
+    is_method_4 = known_number(lines, "method", RULES.method) == 4
+    return [keyword for keyword in given_once(method) if not (is_method_4 and keyword == "source")]
 
 
 def repeat_complaints(lines, method):
@@ -317,7 +317,7 @@ def missing(lines, method, vertices):
     """Complains, at the last line, of what the text lacks, unless a bad line looks like an attempt at it."""
     last = lines[-1].number if lines else 0
     meant = [line.meant for line in lines]
-    for keyword in given_once(method):
+    for keyword in needed(lines, method):
         if keyword not in meant:
             yield Complaint(last, f"the text has no `{keyword}`", f"a line `{FORMS[keyword]}`")
     rows = meant.count("row")
@@ -328,11 +328,11 @@ def missing(lines, method, vertices):
 
 def messages_for(lines, unchecked):
     """All that is wrong with the text: of each bad line what is found first, in the order of the text, then what is missing."""
-    limits = limits_for(None, unchecked)
+    limits = limits_for(None, None, unchecked)
     vertices = known_number(lines, "yards", limits.vertices)
-    limits = limits_for(vertices, unchecked)
     # Unchecked, the body is of any method and goes with any number of vertices.
     method = None if unchecked else known_number(lines, "method", limits.method)
+    limits = limits_for(method, vertices, unchecked)
     found = chain(
         form_complaints(lines),
         repeat_complaints(lines, method),
@@ -358,9 +358,10 @@ def pack(*fields):
 
 
 def header_word(lines):
-    """The word of the header, which counts the edges."""
-    method, vertices, source = (int(having(lines, keyword)[0].values[0]) for keyword in HEADER)
-    return pack((method, 4), (vertices, 20), (len(having(lines, "lane")), 20), (source, 20))
+    """The word of the header, which counts the edges; a source that is left out is 0."""
+    given = {line.keyword: int(line.values[0]) for line in lines if line.keyword in HEADER}
+    edges = len(having(lines, "lane"))
+    return pack((given["method"], 4), (given["yards"], 20), (edges, 20), (given.get("source", 0), 20))
 
 
 def edge_word(line):

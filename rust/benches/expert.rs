@@ -3,10 +3,12 @@
 //!
 //! The words of the log follow from the header alone, so those of an edge, or of
 //! a turn in method 2, are written together and not as each is carried out.
-//! Later passes and turns log the words of the first. They copy them while the
-//! log is short, and make them anew when it is long: whichever is faster.
+//! Later passes and turns log the words of the first, and so does method 4 each
+//! time that it adds a column and a row up. They copy them while the log is short,
+//! and make them anew when it is long: whichever is faster.
 
 mod edges;
+mod pairs;
 mod route;
 mod sorted;
 mod table;
@@ -25,6 +27,7 @@ pub fn run(request: &[u64], cells: &mut [i64], log: &mut [u64]) -> u64 {
     match public.method {
         1 => edges::run(&public, cells, &mut log[1..]),
         3 => sorted::run(&public, cells, &mut log[1..]),
+        4 => pairs::run(&public, cells, &mut log[1..]),
         5 => route::run(&public, cells, &mut log[1..]),
         _ => table::run(&public, cells, &mut log[1..]),
     }
@@ -39,6 +42,8 @@ pub fn rounds(public: &Public) -> u64 {
         (1, _) => m * (n * n + 9 * n - 9) + n + 16,
         (3, 0) => 8 * n + 1,
         (3, _) => 9 * n * m + n * n + 8 * n + 7,
+        (4, 0) => 7 * n + 9,
+        (4, _) => 7 * n + 7 * m + 16,
         (5, 0) => (n * n + 5 * n - 5).max(2),
         (5, _) => m * (n - 1) * (n + 9) + (m * n + n + 16).max(m + n * n + 5 * n + 1),
         _ => 9 * n * n + 13 * n + 1,

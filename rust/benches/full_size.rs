@@ -18,7 +18,7 @@ use vukstaja::Answer;
 const WORDS: usize = 40_000_000;
 /// and at least so many in a turn, so that reading the clock costs next to nothing.
 const WORDS_PER_TURN: usize = 50_000;
-const SIZES: [(u64, u64, u64); 16] = [
+const SIZES: [(u64, u64, u64); 20] = [
     (1, 4, 16),
     (1, 8, 32),
     (1, 16, 64),
@@ -31,6 +31,10 @@ const SIZES: [(u64, u64, u64); 16] = [
     (3, 8, 32),
     (3, 16, 64),
     (3, 32, 128),
+    (4, 4, 16),
+    (4, 8, 32),
+    (4, 16, 64),
+    (4, 32, 128),
     (5, 4, 16),
     (5, 8, 32),
     (5, 16, 64),
@@ -200,8 +204,8 @@ impl Racer {
             cells,
             words: vec![0; length],
             plan: Vec::with_capacity(task.plan.len()),
-            distances: vec![0; public.n as usize],
-            parents: vec![0; public.n as usize],
+            distances: vec![0; public.distances_length()],
+            parents: vec![0; public.parents_length()],
             route: vec![0; public.route_length()],
         };
         Racer {

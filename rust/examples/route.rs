@@ -1,4 +1,5 @@
-//! Prints what the desk's program prints for a request: the vertices that are reached.
+//! Prints what the desk's program prints for a request: the vertices that are
+//! reached, in method 4 the pairs that a walk joins.
 //!
 //! The words are hexadecimal arguments; without any, the printed request:
 //! two vertices and one edge from 0 to 1 of weight -5.
@@ -41,15 +42,32 @@ fn print_routes(routes: &Routes) {
         routes.report.rounds,
         routes.report.verdict
     );
+    match header.method {
+        Method::FloydWarshall => print_pairs(routes),
+        _ => print_vertices(routes),
+    }
+    if header.method == Method::BellmanFordRoute {
+        let edges = routes.route.iter().map(|edge| format!(" {edge}"));
+        println!("route{}", edges.collect::<String>());
+    }
+}
+
+fn print_vertices(routes: &Routes) {
     let lines = routes.distances.iter().zip(&routes.parents);
     for (vertex, (distance, parent)) in lines.enumerate() {
         if let Some(distance) = distance {
             println!("{vertex} {distance} {}", or_dash(parent));
         }
     }
-    if header.method == Method::BellmanFordRoute {
-        let edges = routes.route.iter().map(|edge| format!(" {edge}"));
-        println!("route{}", edges.collect::<String>());
+}
+
+fn print_pairs(routes: &Routes) {
+    for (from, row) in routes.rows().enumerate() {
+        for (to, distance) in row.iter().enumerate() {
+            if let Some(distance) = distance {
+                println!("{from} {to} {distance}");
+            }
+        }
     }
 }
 

@@ -1,10 +1,11 @@
 //! Private routing: safe calls to the proved static library.
 //!
 //! A graph has vertices and directed edges with weights; an edge of negative
-//! weight is allowed in methods 1, 3 and 5. A run answers the distance of each
+//! weight is allowed in every method but 2. A run answers the distance of each
 //! vertex from the source and its parent on a shortest walk, in method 5 also
-//! the edges of such a walk to a destination, and writes a log that follows from
-//! the public header and the verdict alone.
+//! the edges of such a walk to a destination, in method 4 the distances from
+//! every vertex and no parents; and it writes a log that follows from the public
+//! header and the verdict alone.
 //!
 //! ```
 //! // Two vertices, and one edge from 0 to 1 of weight -5.
@@ -23,13 +24,25 @@
 //! let routes = vukstaja::solve(&[header.word(), edges[0], edges[1], 2])?;
 //! assert_eq!(routes.distances, [Some(0), Some(3), Some(7)]);
 //! assert_eq!(routes.route, [0, 1]);
+//!
+//! // The same edges, and the distances from every vertex, row by row.
+//! let header = vukstaja::Header {
+//!     method: vukstaja::Method::FloydWarshall,
+//!     ..header
+//! };
+//! let routes = vukstaja::solve(&[header.word(), edges[0], edges[1]])?;
+//! let rows: Vec<_> = routes.rows().collect();
+//! assert_eq!(rows[0], [Some(0), Some(3), Some(7)]);
+//! assert_eq!(rows[1], [None, Some(0), Some(4)]);
+//! assert_eq!(rows[2], [None, None, Some(0)]);
 //! # Ok::<(), vukstaja::Refusal>(())
 //! ```
 
 use std::error::Error;
 use std::fmt;
 
-/// The distance cell of a vertex that no walk from the source reaches.
+/// The distance of a vertex that no walk from the source reaches, in method 4
+/// from the row's vertex.
 pub const UNREACHED: i64 = (1 << 39) - 1;
 
 /// The same in distances that were saved before weights came in hundredths.
@@ -92,6 +105,10 @@ pub enum Method {
     /// from the distances of the pass before. Of edges that offer a vertex the
     /// same the lowest becomes its parent.
     SortedBellmanFord = 3,
+    /// Method 4: Floyd-Warshall over a list of edges. It gives the distances
+    /// from every vertex, n rows of n, and no parents. The header's source is 0,
+    /// and a cycle of negative weight counts wherever it is.
+    FloydWarshall = 4,
     /// Method 5: Bellman-Ford over a list of edges, and the route to a
     /// destination, which is a word after the edges.
     BellmanFordRoute = 5,
@@ -103,17 +120,19 @@ pub struct Header {
     pub method: Method,
     pub vertices: u32,
     pub edges: u32,
+    /// 0 in method 4, whose distances are from every vertex.
     pub source: u32,
 }
 
 impl Header {
-    /// Reads a header word; `None` if its method is not 1, 2, 3 or 5. Whether
-    /// the library accepts the rest, [`sizes`] tells.
+    /// Reads a header word; `None` if its method is not 1 to 5. Whether the
+    /// library accepts the rest, [`sizes`] tells.
     pub fn from_word(word: u64) -> Option<Header> {
         let method = match word >> (3 * FIELD_BITS) {
             1 => Method::BellmanFord,
             2 => Method::Dijkstra,
             3 => Method::SortedBellmanFord,
+            4 => Method::FloydWarshall,
             5 => Method::BellmanFordRoute,
             _ => return None,
         };
@@ -145,7 +164,9 @@ pub struct Sizes {
     pub cells: usize,
     /// Words of the log; the plan has no more.
     pub log: usize,
+    /// In method 4 a place for each pair of vertices, in the others for each vertex.
     pub distances: usize,
+    /// 0 in method 4.
     pub parents: usize,
     /// 0 in every method but 5.
     pub route: usize,
@@ -178,10 +199,10 @@ pub struct Refusal {
 impl Refusal {
     fn sentence(&self) -> &'static str {
         match self.number {
-            1 => "the header is missing, or its method is not 1, 2, 3 or 5",
+            1 => "the header is missing, or its method is not 1 to 5",
             2 => "the number of vertices is 0 or over 32",
             3 => "the number of edges is over 128, or not 0 in method 2",
-            4 => "the source is not one of the vertices",
+            4 => "the source is not one of the vertices, or not 0 in method 4",
             5 => "the number of words after the header is not the header's",
             6 => "there are too few cells",
             7 => "the log or plan buffer is too short",
@@ -189,7 +210,7 @@ impl Refusal {
             9 => "the plan has a word that cannot be carried out",
             10 => "the spare bits of a word are not zero",
             11 => "a weight or a saved distance is outside its range",
-            12 => "the source reaches a cycle of negative weight",
+            12 => "the source, or in method 4 any vertex, reaches a cycle of negative weight",
             13 => "an edge leads from a vertex that is not there",
             14 => "an edge leads to a vertex that is not there",
             15 => "an edge leads to a lower vertex than the edge before it",
@@ -214,7 +235,8 @@ impl Error for Refusal {}
 /// The answer to a request.
 #[derive(Clone, Copy, Debug, PartialEq, Eq)]
 pub enum Answer {
-    /// Cells, log, distances and parents are written, in method 5 the route too.
+    /// Cells, log and distances are written, in every method but 4 the parents
+    /// too, and in method 5 the route.
     Ran(Report),
     /// Refusal 12: cells and log are written, distances, parents and route are not.
     NegativeCycle(Report),
@@ -227,9 +249,12 @@ pub enum Answer {
 pub struct Routes {
     pub header: Header,
     pub report: Report,
-    /// `None` where no walk from the source leads.
+    /// `None` where no walk from the source leads. In method 4 the distances
+    /// from every vertex: with n vertices, `distances[i * n + j]` is that of `j`
+    /// from `i`, and [`rows`](Routes::rows) has them by `i`.
     pub distances: Vec<Option<i64>>,
-    /// The last edge's number in methods 1, 3 and 5, the last vertex but one in method 2.
+    /// The last edge's number in methods 1, 3 and 5, the last vertex but one in
+    /// method 2. Empty in method 4.
     pub parents: Vec<Option<usize>>,
     /// In method 5 the numbers of the edges of a shortest walk to the destination,
     /// the last edge first: none where that is the source or unreached. Empty in
@@ -238,7 +263,17 @@ pub struct Routes {
     pub log: Vec<u64>,
 }
 
-/// Runs a request in the buffers lent. The route's is looked at in method 5 alone.
+impl Routes {
+    /// The distances by rows: in method 4 those from vertex 0, from vertex 1 and
+    /// so on, in the others one row, from the source.
+    pub fn rows(&self) -> impl Iterator<Item = &[Option<i64>]> {
+        self.distances.chunks_exact(self.header.vertices as usize)
+    }
+}
+
+/// Runs a request in the buffers lent. The parents' is looked at in every method
+/// but 4, the route's in method 5 alone: where they are not, they may have any
+/// length and stay as they are.
 pub fn run(
     request: &[u64],
     cells: &mut [i64],

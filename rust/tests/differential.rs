@@ -6,6 +6,8 @@ mod generator;
 mod limits;
 mod reference;
 mod shapes;
+mod sums;
+mod tables;
 
 use std::collections::{BTreeMap, HashSet};
 use std::thread;
@@ -14,8 +16,9 @@ use generator::{
     buffers, damage, edge_word, faults, foreign_plan, request, small_request, Random, METHODS,
 };
 use reference::graph::Graph;
-use reference::plan::{head, pack, Public, FAR};
+use reference::plan::{head, lay, pack, Public, FAR};
 use reference::{Buffers, Outcome};
+use sums::Carrier;
 use vukstaja::{Answer, Header, Method, Refusal, Routes};
 
 const SEED: u64 = 0x5EED_0101_2026_0001;
@@ -58,7 +61,7 @@ fn library_run(request: &[u64], lent: &mut Buffers) -> Outcome {
 /// Runs both on the same buffers and compares answer and buffers whole.
 fn compare(request: &[u64], lent: Buffers) -> (Outcome, Buffers) {
     let mut ours = lent.clone();
-    let mut theirs = lent;
+    let mut theirs = lent.clone();
     let outcome = library_run(request, &mut ours);
     assert_eq!(
         outcome,
@@ -68,6 +71,7 @@ fn compare(request: &[u64], lent: Buffers) -> (Outcome, Buffers) {
     assert!(ours == theirs, "buffers differ: {request:x?}");
     if matches!(outcome.number, 0 | 12) {
         judge_rounds(&outcome, &ours.log, ours.cells.len());
+        judge_sums(request, &outcome, lent.cells, &ours);
         judge(request, &outcome, &ours);
     }
     (outcome, ours)
@@ -79,9 +83,25 @@ fn judge_rounds(outcome: &Outcome, log: &[u64], cells: usize) {
     assert_eq!(rounds, chains::heaviest(&log[..length as usize], cells));
 }
 
+/// Judges the log by carrying it out without a limit to the numbers: it leaves
+/// the cells that the run left, and no sum is near the ends of 64 bits.
+fn judge_sums(request: &[u64], outcome: &Outcome, lent: Vec<i64>, left: &Buffers) {
+    let length = outcome.values[1] as usize;
+    let mut carrier = Carrier::new(request, lent);
+    carrier.carry_out(&left.log[1..length]);
+    let cells = left.cells.iter().copied().map(i128::from);
+    assert!(cells.eq(carrier.cells), "{request:x?}");
+    let [least, greatest] = sums::bounds(&Public::read(request[0]));
+    assert!(least <= carrier.least, "{request:x?}");
+    assert!(carrier.greatest <= greatest, "{request:x?}");
+}
+
 /// Judges verdict, distances, parents and route by the graph alone.
 fn judge(request: &[u64], outcome: &Outcome, left: &Buffers) {
     let graph = Graph::read(request);
+    if request[0] >> 60 == 4 {
+        return judge_table(request, &graph, outcome, left);
+    }
     let distances = graph.bellman_ford();
     assert_eq!(outcome.number == 12, distances.is_none(), "{request:x?}");
     assert_eq!(outcome.values[2], u64::from(distances.is_none()));
@@ -103,6 +123,18 @@ fn judge(request: &[u64], outcome: &Outcome, left: &Buffers) {
         assert_eq!(found, distance.unwrap_or(FAR), "{request:x?}");
         let steps = walk_back(&graph, left, vertex, dense);
         assert_eq!(steps.is_some(), distance.is_some(), "{request:x?}");
+    }
+}
+
+/// Judges method 4 row by row, each from its own vertex.
+fn judge_table(request: &[u64], graph: &Graph, outcome: &Outcome, left: &Buffers) {
+    let table = graph.table();
+    assert_eq!(outcome.number == 12, table.is_none(), "{request:x?}");
+    assert_eq!(outcome.values[2], u64::from(table.is_none()));
+    let n = graph.vertices;
+    for (row, found) in table.iter().flatten().zip(left.distances.chunks(n)) {
+        let expected = row.iter().map(|distance| distance.unwrap_or(FAR));
+        assert!(expected.eq(found.iter().copied()), "{request:x?}");
     }
 }
 
@@ -206,7 +238,7 @@ fn words_with_every_combination_of_faults() {
     let mut random = Random::new(SEED + 9);
     let mut compared = 0;
     let mut seen = HashSet::new();
-    let edges = [1, 3, 5].map(|method| [1, 2, 31, 32].map(|n| (method, n)));
+    let edges = [1, 3, 4, 5].map(|method| [1, 2, 31, 32].map(|n| (method, n)));
     let tables = [(2, 1), (2, 2), (2, 3)];
     for (method, n) in edges.concat().into_iter().chain(tables) {
         let mut valid = request(&mut random, method, n, 3);
@@ -233,7 +265,7 @@ fn words_with_every_combination_of_faults() {
     }
     println!("{compared} requests with chosen faults");
     // In method 3 a head that is not there is not below another: 8 of 32 cannot be.
-    assert_eq!(seen.len(), 16 + 4 + 24 + 16);
+    assert_eq!(seen.len(), 16 + 4 + 24 + 16 + 16);
 }
 
 /// A request with these faults in the word at a place and in the next one,
@@ -321,8 +353,8 @@ fn routes_to_every_vertex() {
 fn route_buffers_of_every_length() {
     let mut random = Random::new(SEED + 15);
     let mut compared = 0;
-    for turn in 0..400 {
-        let (method, n) = (METHODS[turn % 4], 1 + random.below(6));
+    for turn in 0..500 {
+        let (method, n) = (METHODS[turn % METHODS.len()], 1 + random.below(6));
         let m = random.below(9);
         let request = request(&mut random, method, n, m);
         let places = Public::read(request[0]).route_length();
@@ -338,6 +370,38 @@ fn route_buffers_of_every_length() {
         }
     }
     println!("{compared} route buffers");
+}
+
+/// Distances and parents are refused where they are too short, and the parents'
+/// buffer is not looked at in method 4. No more is written than there is.
+#[test]
+fn results_buffers_of_every_length() {
+    let mut random = Random::new(SEED + 23);
+    let mut compared = [0; 2];
+    for turn in 0..100 {
+        let (method, n) = (METHODS[turn % METHODS.len()], 1 + random.below(4));
+        let m = random.below(9);
+        let request = request(&mut random, method, n, m);
+        let public = Public::read(request[0]);
+        let places = [public.distances_length(), public.parents_length()];
+        for (kind, needed) in places.into_iter().enumerate() {
+            for length in 0..=needed.max(n as usize) + 2 {
+                let mut lent = buffers(&mut random, request[0]);
+                let fresh = random.cells(length);
+                *results(&mut lent)[kind] = fresh.clone();
+                let (outcome, mut left) = compare(&request, lent);
+                assert_eq!(outcome.number == 8, length < needed, "{request:x?}");
+                let written = if outcome.number == 0 { needed } else { 0 };
+                assert_eq!(results(&mut left)[kind][written..], fresh[written..]);
+                compared[kind] += 1;
+            }
+        }
+    }
+    println!("{compared:?} buffers of distances and of parents");
+}
+
+fn results(lent: &mut Buffers) -> [&mut Vec<i64>; 2] {
+    [&mut lent.distances, &mut lent.parents]
 }
 
 /// A destination is looked at whole, after the buffers and all edges.
@@ -387,6 +451,7 @@ fn full_size_requests() {
         (1, 12, 1_060_837, 166_832),
         (2, 40, 44_227, 9_633),
         (3, 20, 437_222, 38_151),
+        (4, 20, 521_372, 1_136),
         (5, 12, 1_072_197, 166_832),
     ] {
         for _ in 0..runs {
@@ -401,7 +466,7 @@ fn full_size_requests() {
 #[test]
 fn full_size_negative_cycle_around_all_vertices() {
     let mut random = Random::new(SEED + 3);
-    for method in [1, 3, 5] {
+    for method in [1, 3, 4, 5] {
         let mut request = vec![pack(method, 32, 128, 0)];
         // Against the order of the edges a pass of method 1 moves one step only.
         for i in 0..128 {
@@ -434,7 +499,7 @@ fn solved_requests() {
     let mut roomy = Buffers {
         cells: vec![0; 8_874],
         log: vec![0; 1_072_197],
-        distances: vec![0; 32],
+        distances: vec![0; 1024],
         parents: vec![0; 32],
         route: vec![0; 31],
     };
@@ -461,13 +526,19 @@ fn compare_routes(routes: &Routes, expected: &Outcome, left: &Buffers) {
     assert_eq!(ran(0, values), *expected);
     assert_eq!(routes.log, left.log[..routes.log.len()]);
     assert_eq!(routes.log.len() as u64, report.log_length);
-    assert_eq!(routes.distances.len(), routes.header.vertices as usize);
-    for (vertex, distance) in routes.distances.iter().enumerate() {
-        assert_eq!(distance.unwrap_or(FAR), left.distances[vertex]);
-        let parent = routes.parents[vertex].map_or(-1, |parent| parent as i64);
+    let public = Public::read(routes.header.word());
+    assert_eq!(routes.distances.len(), public.distances_length());
+    for (place, distance) in routes.distances.iter().enumerate() {
+        assert_eq!(distance.unwrap_or(FAR), left.distances[place]);
+    }
+    assert!(routes.rows().flatten().eq(&routes.distances));
+    assert!(routes.rows().all(|row| row.len() as u64 == public.n));
+    assert_eq!(routes.parents.len(), public.parents_length());
+    for (vertex, parent) in routes.parents.iter().enumerate() {
+        let parent = parent.map_or(-1, |parent| parent as i64);
         assert_eq!(parent, left.parents[vertex]);
     }
-    let places = Public::read(routes.header.word()).route_length();
+    let places = public.route_length();
     let shown: Vec<i64> = routes.route.iter().map(|&edge| edge as i64).collect();
     let (route, padding) = left.route[..places].split_at(shown.len());
     assert_eq!(shown, route);
@@ -561,6 +632,31 @@ fn plan_cells(random: &mut Random, count: usize) -> Vec<i64> {
         }
     }
     cells
+}
+
+/// A request's own plan, run as a foreign one on the cells that its words are
+/// laid into, leaves what the request's run leaves.
+#[test]
+fn plans_of_requests() {
+    let mut random = Random::new(SEED + 30);
+    for turn in 0..500 {
+        let method = METHODS[turn % METHODS.len()];
+        let (n, m) = match turn < METHODS.len() {
+            true => (32, 128),
+            false => (1 + random.below(8), random.below(16)),
+        };
+        let request = request(&mut random, method, n, m);
+        let lent = buffers(&mut random, request[0]);
+        let mut cells = lent.cells.clone();
+        lay(&Public::read(request[0]), &request[1..], &mut cells);
+        let (outcome, left) = compare(&request, lent);
+        let mut log = vec![0; outcome.values[1] as usize];
+        let plan = reference::plan_words(request[0]);
+        let report = vukstaja::run_plan(&plan, &mut cells, &mut log).expect("the plan runs");
+        assert_eq!([report.rounds, report.log_length], outcome.values[..2]);
+        assert!(cells == left.cells, "cells differ: {request:x?}");
+        assert!(log == left.log[..log.len()], "logs differ: {request:x?}");
+    }
 }
 
 #[test]
@@ -736,6 +832,7 @@ fn stated_length(method: Method, n: u64, m: u64) -> u64 {
         Method::BellmanFord => 3 * n + 4 + m * (8 * n * n + 3 * n - 1),
         Method::Dijkstra => n * n * n + 11 * n * n + 6 * n + 3,
         Method::SortedBellmanFord => 3 * n * n + 3 * n + 5 + m * (3 * n * n + 10 * n - 1),
+        Method::FloydWarshall => 3 * n * n * n + 5 * n * n + 4 * n + 27 + m * (3 * n * n + 6 * n),
         Method::BellmanFordRoute => m * (8 * n * n + 5 * n) + 3 * n * n + 2 * n + 4,
     }
 }
@@ -748,6 +845,8 @@ fn stated_rounds(method: Method, n: u64, m: u64) -> u64 {
         Method::Dijkstra => 9 * n * n + 13 * n + 1,
         Method::SortedBellmanFord if m == 0 => 8 * n + 1,
         Method::SortedBellmanFord => 9 * n * m + n * n + 8 * n + 7,
+        Method::FloydWarshall if m == 0 => 7 * n + 9,
+        Method::FloydWarshall => 7 * n + 7 * m + 16,
         Method::BellmanFordRoute if m == 0 => (n * n + 5 * n - 5).max(2),
         Method::BellmanFordRoute => {
             let [verdict, route] = [m * n + n + 16, m + n * n + 5 * n + 1];
@@ -762,16 +861,21 @@ fn written_plans_have_the_stated_lengths_and_rounds() {
     let edges = [
         Method::BellmanFord,
         Method::SortedBellmanFord,
+        Method::FloydWarshall,
         Method::BellmanFordRoute,
     ];
     let pairs = (0..=128).flat_map(|m| edges.map(|method| (method, 1 + m % 32, m)));
     let tables = (1..=32).map(|n| (Method::Dijkstra, n, 0));
     for (method, n, m) in pairs.chain(tables) {
+        let source = match method {
+            Method::FloydWarshall => 0,
+            _ => n - 1,
+        };
         let header = Header {
             method,
             vertices: n,
             edges: m,
-            source: n - 1,
+            source,
         };
         let word = header.word();
         assert_eq!(Header::from_word(word), Some(header));
@@ -820,13 +924,15 @@ fn sizes_of_headers() {
     println!("20000 headers' sizes, by number: {seen:?}");
     assert!(seen.iter().all(|&count| count > 100), "{seen:?}");
     let most = [
-        (1, 128, [488, 1_060_837, 32, 32, 0]),
-        (2, 0, [1190, 44_227, 32, 32, 0]),
-        (3, 128, [8_874, 437_222, 32, 32, 0]),
-        (5, 128, [552, 1_072_197, 32, 32, 31]),
+        (1, 128, 31, [488, 1_060_837, 32, 32, 0]),
+        (2, 0, 31, [1190, 44_227, 32, 32, 0]),
+        (3, 128, 31, [8_874, 437_222, 32, 32, 0]),
+        (4, 128, 0, [1_510, 521_372, 1_024, 0, 0]),
+        (5, 128, 31, [552, 1_072_197, 32, 32, 31]),
     ];
-    for (method, m, sizes) in most {
-        assert_eq!(compare_sizes(&[pack(method, 32, m, 31)]), ran(0, sizes));
+    for (method, m, source, sizes) in most {
+        let header = pack(method, 32, m, source);
+        assert_eq!(compare_sizes(&[header]), ran(0, sizes));
     }
 }
 
@@ -834,8 +940,8 @@ fn sizes_of_headers() {
 #[test]
 fn logs_of_pairs() {
     let mut random = Random::new(SEED + 6);
-    let mut differing = 0;
-    for _ in 0..3_000 {
+    let mut differing = BTreeMap::from(METHODS.map(|method| (method, 0)));
+    for _ in 0..4_000 {
         let first = small_request(&mut random);
         let (method, n, m) = (first[0] >> 60, first[0] >> 40 & 0xFF, first[0] >> 20 & 0xFF);
         let mut second = request(&mut random, method, n, m);
@@ -848,10 +954,15 @@ fn logs_of_pairs() {
         let equal = left.log[..length] == right.log[..length];
         assert_eq!(one.values[..2], two.values[..2]);
         assert_eq!(equal, one.values[2] == two.values[2]);
-        differing += usize::from(!equal);
+        *differing.get_mut(&method).expect("a known method") += usize::from(!equal);
     }
-    println!("3000 pairs, {differing} with different verdicts");
-    assert!(differing > 100);
+    println!("4000 pairs, by method those with different verdicts: {differing:?}");
+    // Method 2 has no verdict.
+    assert_eq!(differing.remove(&2), Some(0));
+    assert!(
+        differing.values().all(|&count| count > 100),
+        "{differing:?}"
+    );
 }
 
 fn solved(request: &[u64]) -> (u64, Vec<Option<i64>>, Vec<Option<usize>>) {
@@ -907,6 +1018,11 @@ fn requests_at_the_edges() {
     assert_eq!(number(&[pack(1, 33, 0, 0)]), (2, None));
     assert_eq!(number(&[pack(1, 1, 129, 0)]), (3, None));
     assert_eq!(number(&[]), (1, None));
+    for method in [0, 6, 7, 15] {
+        let header = pack(method, 1, 0, 0);
+        assert_eq!(number(&[header]), (1, None));
+        assert_eq!(Header::from_word(header), None);
+    }
 }
 
 /// Ties, what each pass reads, and the order of the edges.

@@ -1,5 +1,5 @@
 /* The five calls from C: the printed request of the rules, its sizes, its plan, the plan run from outside, requests of
- * methods 3 and 5, saved distances converted, and refusals. */
+ * methods 3, 4 and 5, saved distances converted, and refusals. */
 #include <inttypes.h>
 #include <stdio.h>
 #include <stdlib.h>
@@ -92,6 +92,22 @@ static void run_request(const uint64_t *request, size_t length)
     give_back(&lent);
 }
 
+/* A request of method 4: distances by rows, and no parents. */
+static void run_table(const uint64_t *request, size_t length, size_t vertices)
+{
+    struct buffers lent = made_for(request[0]);
+    vukstaja_answer answer;
+    run(request, length, &lent, &answer);
+    print_answer("run", answer);
+    for (size_t i = 0; i < vertices; i++) {
+        printf("from %zu:", i);
+        for (size_t j = 0; j < vertices; j++)
+            printf(" %" PRId64, lent.distances[i * vertices + j]);
+        printf("\n");
+    }
+    give_back(&lent);
+}
+
 /* The plan's own cells hold the edge of the printed request: from 0, to 1, weight -5. */
 static void run_written_plan(void)
 {
@@ -162,6 +178,23 @@ static void be_refused_unsorted(void)
     give_back(&lent);
 }
 
+/* Edges from 1 to 2 and back lose 1, which vertex 0 does not reach. */
+static void be_refused_table(void)
+{
+    uint64_t request[] = {0x4000030000200000, 0x0102000000000000, 0x02010000FFFFFFFF};
+    struct buffers lent = made_for(request[0]);
+    vukstaja_answer answer;
+    run(request, 3, &lent, &answer);
+    print_answer("a loss circle anywhere", answer);
+    lent.distances_length -= 1;
+    run(request, 3, &lent, &answer);
+    print_answer("a table one place short", answer);
+    request[0] |= 1;
+    run(request, 3, &lent, &answer);
+    print_answer("a source of 1 in method 4", answer);
+    give_back(&lent);
+}
+
 static void be_refused_destination(void)
 {
     const uint64_t request[] = {0x5000020000100000, 0x0001000000000000, 2};
@@ -176,15 +209,18 @@ int main(void)
 {
     const uint64_t printed[] = {0x1000020000100000, 0x00010000FFFFFFFB};
     const uint64_t sorted[] = {0x3000030000300000, 0x0001000000000007, 0x02010000FFFFFFFC, 0x0002000000000009};
+    const uint64_t tabled[] = {0x4000030000300000, 0x0001000000000007, 0x02010000FFFFFFFC, 0x0002000000000009};
     const uint64_t routed[] = {0x5000040000400000, 0x0203000000000001, 0x0002000000000009,
                                0x02010000FFFFFFFC, 0x0001000000000007, 1};
     run_request(printed, 2);
     run_written_plan();
     run_request(sorted, 4);
+    run_table(tabled, 4, 3);
     run_request(routed, 6);
     convert_saved();
     be_refused();
     be_refused_unsorted();
+    be_refused_table();
     be_refused_destination();
     return 0;
 }

@@ -6,6 +6,9 @@ method 5 each of them with destinations that are right and wrong.  What is
 printed is also told here, from the combination alone: the first fault in the
 order of the rules, with the word's place.
 
+Then requests without lanes from sources that are right and wrong, which in
+method 4 is every source but 0.
+
 Then requests just within the desk's bank and log and just beyond, each without
 a fault and with one in its last word, which is told where the buffers are
 enough.
@@ -35,6 +38,7 @@ ENTRY = ((10, 0, 1 << 63), (11, 0xFFFFFFFF, 0xFFFFFFFE))
 SORTED_LANE = (*LANE, (15, 0, -TO_YARD_1))
 DESTINATIONS = 0, 1, 2, 3, 1 << 32, 1 << 63, (1 << 64) - 1
 ROW_YARDS = 1, 2, 3, 7
+SOURCES = 0, 1, 2, 3, 6, 7, 1 << 8, (1 << 20) - 1
 
 # Method, yards, lanes and, if any, the number told of the desk's buffers.
 SIZES = ((1, 2, 128, None), (1, 3, 102, None), (1, 3, 103, 7),
@@ -42,6 +46,10 @@ SIZES = ((1, 2, 128, None), (1, 3, 102, None), (1, 3, 103, 7),
          (3, 2, 128, None), (3, 3, 116, None), (3, 3, 117, 6),
          (3, 4, 93, None), (3, 4, 94, 7), (3, 4, 96, 7), (3, 4, 97, 6),
          (3, 32, 1, None), (3, 32, 15, 7), (3, 32, 16, 6), (3, 32, 128, 6),
+         (4, 2, 128, None), (4, 3, 128, None), (4, 4, 109, None),
+         (4, 4, 110, 7), (4, 13, 1, None), (4, 13, 2, 7), (4, 14, 1, 7),
+         (4, 26, 128, 7), (4, 27, 124, 7), (4, 27, 125, 6), (4, 32, 21, 7),
+         (4, 32, 22, 6), (4, 32, 128, 6),
          (5, 2, 128, None), (5, 3, 93, None), (5, 3, 94, 7), (5, 26, 1, None),
          (5, 27, 1, 7), (5, 32, 0, None), (5, 32, 1, 7), (5, 32, 128, 7))
 
@@ -76,6 +84,7 @@ def faulty_requests():
     for header, fields in ((Header(1, 2, 4, 0), LANE),
                            (Header(2, 2, 0, 0), ENTRY),
                            (Header(3, 2, 4, 0), SORTED_LANE),
+                           (Header(4, 2, 4, 0), LANE),
                            (Header(5, 2, 4, 0), LANE)):
         other = 0 if fields is ENTRY else TO_YARD_1
         for place in (0, 2, 3):
@@ -86,6 +95,15 @@ def faulty_requests():
                     yield from with_destinations(header, words, refusal)
                 else:
                     yield header, words, refusal
+
+
+def sourced_requests():
+    """Each request from a chosen source, and its refusal, if any."""
+    for method, n, source in product(model.METHODS, ROW_YARDS, SOURCES):
+        header = Header(method, n, 0, source)
+        wrong = source > 0 if method == 4 else source >= n
+        yield (header, [0] * model.words_expected(header),
+               Refusal(4) if wrong else None)
 
 
 def routed_requests():
@@ -118,7 +136,8 @@ def last_lines():
 
     The one line of a refusal is its last.
     """
-    for header, words, refusal in (*faulty_requests(), *sized_requests()):
+    for header, words, refusal in (*faulty_requests(), *sourced_requests(),
+                                   *sized_requests()):
         yield header, words, refusal and model.refusal_line(refusal)
     yield from routed_requests()
 
@@ -132,7 +151,8 @@ def main(program):
         if lines != told or (last and lines[-1] != last):
             sys.exit(f"desk: {sent.hex()}\n  model:   {told}\n  program: {lines}")
         count += 1
-    print(f"desk: {count} requests with chosen faults, routes and sizes agree")
+    print(f"desk: {count} requests with chosen faults, sources, sizes and "
+          "routes agree")
 
 
 if __name__ == "__main__":

@@ -3,15 +3,18 @@
 Networks of every method are drawn, and each is sent without an argument and
 with `all`.  Which yards a walk leads to is found here once more, by following
 the lanes and without a price: those and no others are listed without an
-argument.  The other listing has the same lines in the same order, and besides
-one for each other yard, which ends in two dashes.  A refusal is the same in
-both.
+argument, in method 4 those from each yard.  The other listing has the same
+lines in the same order, and besides one for each other yard, which ends in two
+dashes, or in method 4 for each other pair, which ends in one.  A refusal is the
+same in both.
 
-Then the printed case of an unreached yard is sent with arguments of every kind.
+Then the printed case of an unreached yard is sent with arguments of every kind,
+in methods 1 and 4.
 """
 
 import random
 import sys
+from itertools import product
 from pathlib import Path
 
 sys.path.insert(0, str(Path(__file__).resolve().parents[1] / "model"))
@@ -21,14 +24,22 @@ import network
 from network import Network
 from program import printed, to_bytes
 
-NETWORKS = 600
+NETWORKS = 750
 MOST_YARDS = 6
 SEED = 6
 
-# The printed case of an unreached yard: to yard 2 there is no lane.
+# The printed case of an unreached yard: to yard 2 there is no lane.  By method,
+# the lines of both listings.
 APART = Network(1, 3, 0, [(0, 1, -5)])
-APART_LISTED = ["1 3 1 0 46 0", "0 0 -", "1 -5 0"]
-APART_UNREACHED = ["2 - -"]
+APART_LISTED = {
+    1: ["1 3 1 0 46 0", "0 0 -", "1 -5 0"],
+    4: ["4 3 1 0 44 0", "0 0 0", "0 1 -5", "1 1 0", "2 2 0"],
+}
+APART_ALL_LISTED = {
+    1: ["1 3 1 0 46 0", "0 0 -", "1 -5 0", "2 - -"],
+    4: ["4 3 1 0 44 0", "0 0 0", "0 1 -5", "0 2 -", "1 0 -", "1 1 0", "1 2 -",
+        "2 0 -", "2 1 -", "2 2 0"],
+}
 
 # Arguments, the first of which is looked at, and whether they list every yard.
 ARGUMENTS = (((), False), (("",), False), (("", "all"), False),
@@ -54,31 +65,50 @@ def draw(draws):
     if method == 3:
         lanes.sort(key=lambda lane: lane[1])
     destination = draws.randrange(n) if method == 5 else None
-    return Network(method, n, draws.randrange(n), lanes, destination)
+    source = draws.randrange(model.sources_of(method, n))
+    return Network(method, n, source, lanes, destination)
 
 
-def reached(drawn):
+def reached(lanes, source):
     """The yards that a walk from the source leads to."""
-    found, left = {drawn.source}, [drawn.source]
+    found, left = {source}, [source]
     while left:
         u = left.pop()
-        onward = {target for origin, target, _ in drawn.lanes if origin == u}
+        onward = {target for origin, target, _ in lanes if origin == u}
         left += onward - found
         found |= onward
     return found
+
+
+def reached_and_others(drawn):
+    """The yards that a walk leads to and the others, both in their order.
+
+    In method 4 the pairs of yards that a walk joins and the others, by rows.
+    """
+    yards, lanes = range(drawn.yards), drawn.lanes
+    if drawn.method == 4:
+        found = {(u, v) for u in yards for v in reached(lanes, u)}
+        return sorted(found), sorted(set(product(yards, yards)) - found)
+    found = {(v,) for v in reached(lanes, drawn.source)}
+    return sorted(found), sorted(set(product(yards)) - found)
+
+
+def yards_of(drawn, lines):
+    """The yard that each of these lines is of, in method 4 the pair."""
+    count = 2 if drawn.method == 4 else 1
+    return [tuple(map(int, line.split()[:count])) for line in lines]
 
 
 def is_right(drawn, listed, all_listed):
     """Whether the listings are of the yards that they should be of."""
     if listed[0].startswith("refused"):
         return listed == all_listed
-    others = [line for line in all_listed if line.endswith(" - -")]
-    yards = [int(line.split()[0]) for line in listed[1:]
-             if not line.startswith("route")]
-    missing = [int(line.split()[0]) for line in others]
+    ending = " -" if drawn.method == 4 else " - -"
+    others = [line for line in all_listed if line.endswith(ending)]
+    shown = [line for line in listed[1:] if not line.startswith("route")]
     return (listed == [line for line in all_listed if line not in others]
-            and yards == sorted(reached(drawn))
-            and missing == sorted(set(range(drawn.yards)) - set(yards)))
+            and (yards_of(drawn, shown), yards_of(drawn, others))
+            == reached_and_others(drawn))
 
 
 def main(program):
@@ -95,10 +125,11 @@ def main(program):
         some_left_out += listings[0] != listings[1]
     if not NETWORKS // 4 < some_left_out < NETWORKS * 3 // 4:
         sys.exit("desk: too few or too many listings leave a yard out")
-    sent = to_bytes(network.request_words(APART))
-    for arguments, every_yard in ARGUMENTS:
+    for method, (arguments, every_yard) in product(APART_LISTED, ARGUMENTS):
+        sent = to_bytes(network.request_words(APART._replace(method=method)))
         lines = printed(program, sent, *arguments)
-        if lines != APART_LISTED + APART_UNREACHED * every_yard:
+        expected = APART_ALL_LISTED if every_yard else APART_LISTED
+        if lines != expected[method]:
             sys.exit(f"desk: arguments {arguments}\n  program: {lines}")
     print(f"desk: both listings of {NETWORKS} networks agree, "
           f"{some_left_out} with yards left out; "

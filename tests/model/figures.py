@@ -1,6 +1,6 @@
 """The expected figures of the larger networks.
 
-Prints a block for each of eleven cases.  The first line of a block is
+Prints a block for each of thirteen cases.  The first line of a block is
 
     method yards lanes source rounds length verdict checksum
 
@@ -9,7 +9,9 @@ s starts at 0 and becomes (s * 31 + w) mod 1000000007, w being the word read as
 an unsigned number, mod 1000000007.  With verdict 0 a line `yard distance
 parent` follows for each yard, `-` for an unreached yard's distance and for no
 parent, and in method 5 then a line `route` with the numbers of the lanes shown.
-With verdict 1 nothing follows.
+In method 4 it is a line `from to distance` for each pair of yards by rows, with
+from the row, `-` for the distance of a pair without a walk.  With verdict 1
+nothing follows.
 
 The rule of the networks.  Division drops the remainder; neither it nor mod
 meets a negative number, and nothing exceeds 62 bits.  A negative price goes
@@ -20,9 +22,9 @@ beginning with x = its seed:
               answer (x / 65536) mod K
 
 Draws are made in the order in which they are written below, and only where
-they are written.  All cases have 32 yards, numbered v; those of method 1 have
-60 lanes, those of method 3 have 128, those of method 5 have 59, numbered i and
-built upward from 0.
+they are written.  All cases have 32 yards, numbered v; those of methods 1 and 4
+have 60 lanes, those of method 3 have 128, those of method 5 have 59, numbered i
+and built upward from 0.
 
 Case a: method 1, source 0, seed 252.
     h(v)  = (373 * v + 500) mod 1009
@@ -79,6 +81,13 @@ Case j: method 5, source 0, seed 2, destination 31.  Lanes as in case b, with 58
 in place of 59.
 
 Case k: method 5, source 5, seed 940, destination 10.  Lanes as in case c.
+
+Case l: method 4, source 0, seed 1000.  Lanes as in case a.
+
+Case m: method 4, source 0, seed 7.  The h and price of case a.
+    i < 30:   from = 30 - i, to = 31 - i, base = 0
+    i < 59:   from = 1 + draw(31), to = 1 + draw(31), base = 1 + draw(400)
+    i = 59:   from = 31, to = 1, base = -1
 """
 
 from functools import partial
@@ -87,7 +96,7 @@ import model
 import network
 
 YARDS = 32
-LANES = {1: 60, 3: 128, 5: 59}
+LANES = {1: 60, 3: 128, 4: 60, 5: 59}
 CHECKSUM_FACTOR = 31
 CHECKSUM_MODULUS = 1_000_000_007
 
@@ -113,7 +122,7 @@ def raised(height, origin, target, base):
 
 
 def steep(v):
-    """The height of a yard in cases a, b, f, g, i and j."""
+    """The height of a yard in cases a, b, f, g, i, j, l and m."""
     return (373 * v + 500) % 1009
 
 
@@ -198,6 +207,16 @@ def lane_of_case_h(draws, i):
     return reached_or_rebate(draws, draws.below(YARDS), target)
 
 
+def lane_of_case_m(draws, i):
+    """A loss circle of total -1 through every yard but 0, and no other."""
+    if i < YARDS - 2:
+        return raised(steep, 30 - i, 31 - i, 0)
+    if i == 59:
+        return raised(steep, 31, 1, -1)
+    origin, target = 1 + draws.below(31), 1 + draws.below(31)
+    return raised(steep, origin, target, 1 + draws.below(400))
+
+
 def lane_network(method, source, seed, lane_of, destination=None):
     """A network whose lanes follow a case's rule."""
     draws = Draws(seed)
@@ -215,7 +234,7 @@ def table_network(source, seed, price_of):
 
 
 def networks():
-    """The networks of the eleven cases in order."""
+    """The networks of the thirteen cases in order."""
     return [lane_network(1, 0, 252, lane_of_case_a),
             lane_network(1, 0, 2, partial(lane_of_case_b, last=59)),
             lane_network(1, 5, 110, lane_of_case_c),
@@ -226,7 +245,9 @@ def networks():
             lane_network(3, 5, 282, lane_of_case_h),
             lane_network(5, 0, 1000, lane_of_case_a, 31),
             lane_network(5, 0, 2, partial(lane_of_case_b, last=58), 31),
-            lane_network(5, 5, 940, lane_of_case_c, 10)]
+            lane_network(5, 5, 940, lane_of_case_c, 10),
+            lane_network(4, 0, 1000, lane_of_case_a),
+            lane_network(4, 0, 7, lane_of_case_m)]
 
 
 def checksum(log):
@@ -249,7 +270,7 @@ def block(case):
     if verdict == 0:
         lines += model.result_lines(header, finished.distances,
                                     finished.parents, finished.route,
-                                    all_yards=True)
+                                    with_unreached=True)
     return lines
 
 

@@ -15,7 +15,7 @@ HIGHEST_PRICE = 100_000_000
 PLAN_PLACES = 16_777_216
 DESK_LOG_WORDS = 8192
 DESK_CELLS = 1190
-DESK_RESULTS = MOST_YARDS, MOST_YARDS, MOST_YARDS - 1
+DESK_RESULTS = MOST_YARDS ** 2, MOST_YARDS, MOST_YARDS - 1
 
 SET, COPY, ADD, LESS, EQUAL, BOTH, MOVEIF, OPEN = range(8)
 ROUNDS = (1, 0, 0, 6, 6, 1, 1, 1)
@@ -42,11 +42,13 @@ Cells1 = namedtuple("Cells1", "origin target price D P Y X verdict total")
 Cells2 = namedtuple("Cells2", "U D P Y O R X verdict total")
 Cells3 = namedtuple(
     "Cells3", "origin B target price D P Y N Q X S F T verdict total")
+Cells4 = namedtuple("Cells4", "origin target price D C R Y X verdict total")
 Cells5 = namedtuple(
     "Cells5", "origin target price D P Y X verdict Z B R total")
 Form = namedtuple("Form", "most_lanes word_count strips")
-Method = namedtuple("Method", "form word_refusal cells plan length has_route",
-                    defaults=(False,))
+Method = namedtuple(
+    "Method", "form word_refusal cells plan length results sources",
+    defaults=(lambda n: {"D": n, "P": n}, lambda n: n))
 
 
 # Words and their fields
@@ -91,13 +93,13 @@ def split_header(word):
 
 
 def join_lane(lane):
-    """The lane word of methods 1, 3 and 5."""
+    """The lane word of methods 1, 3, 4 and 5."""
     fields = lane._replace(price=to_unsigned(lane.price, PRICE_BITS))
     return join_fields(fields, LANE_WIDTHS)
 
 
 def split_lane(word):
-    """The lane of a lane word of methods 1, 3 and 5."""
+    """The lane of a lane word of methods 1, 3, 4 and 5."""
     lane = Lane(*split_fields(word, LANE_WIDTHS))
     return lane._replace(price=to_signed(lane.price, PRICE_BITS))
 
@@ -154,6 +156,15 @@ def cells_of_method_3(header):
                   verdict=X + 8, total=F + 2 * n * m)
 
 
+def cells_of_method_4(header):
+    """Where the cells of method 4 lie, and how many there are."""
+    n, m = header.yards, header.lanes
+    C = 3 * m + n * n
+    X = C + 3 * n
+    return Cells4(origin=0, target=m, price=2 * m, D=3 * m, C=C, R=C + n,
+                  Y=C + 2 * n, X=X, verdict=X + 5, total=X + 6)
+
+
 def cells_of_method_5(header):
     """Where the cells of method 5 lie, method 1's first, and how many."""
     n, shared = header.yards, cells_of_method_1(header)
@@ -170,7 +181,7 @@ def set_to(d, number):
 
 
 def open_yard(header, cells, v):
-    """The SETs of Y+v, D+v and P+v that every method begins with."""
+    """The SETs of Y+v, D+v and P+v that every method but 4 begins with."""
     return [set_to(cells.Y + v, v),
             set_to(cells.D + v, 0 if v == header.source else FAR),
             set_to(cells.P + v, -1)]
@@ -373,6 +384,93 @@ def plan_of_method_3(header):
     yield OPEN, 0, cells.verdict, 0
 
 
+def lay_table(cells, n):
+    """The constants, and the table of the walks of no lanes.
+
+    X+1 is 2^20 times FAR, and stands for no walk.
+    """
+    X = cells.X
+    operations = [set_to(cells.Y + v, v) for v in range(n)]
+    operations += [set_to(X, FAR), set_to(X + 1, FAR)]
+    operations += [(ADD, X + 1, X + 1, X + 1)] * 20
+    operations += [set_to(X + 2, 0), set_to(X + 5, 0)]
+    operations += [(COPY, cells.D + i * n + j, X + 1, 0)
+                   for i in range(n) for j in range(n)]
+    return operations + [(COPY, cells.D + v * (n + 1), X + 2, 0)
+                         for v in range(n)]
+
+
+def update_table(cells, n):
+    """Each pair's total is the sum of its row's C and column's R, if less."""
+    X = cells.X
+    operations = []
+    for i in range(n):
+        for j in range(n):
+            entry = cells.D + i * n + j
+            operations += [(ADD, X + 3, cells.C + i, cells.R + j),
+                           (LESS, X + 4, X + 3, entry),
+                           (MOVEIF, entry, X + 4, X + 3)]
+    return operations
+
+
+def lay_lane(cells, n, i):
+    """To C 0 at the from-yard of lane i, to R its price at the to-yard."""
+    X = cells.X
+    operations = []
+    for v in range(n):
+        operations += [(COPY, cells.C + v, X + 1, 0),
+                       (EQUAL, X + 4, cells.origin + i, cells.Y + v),
+                       (MOVEIF, cells.C + v, X + 4, X + 2),
+                       (COPY, cells.R + v, X + 1, 0),
+                       (EQUAL, X + 4, cells.target + i, cells.Y + v),
+                       (MOVEIF, cells.R + v, X + 4, cells.price + i)]
+    return operations
+
+
+def lay_stage(cells, n, k):
+    """To C column k of the table, to R row k."""
+    operations = []
+    for v in range(n):
+        operations += [(COPY, cells.C + v, cells.D + v * n + k, 0),
+                       (COPY, cells.R + v, cells.D + k * n + v, 0)]
+    return operations
+
+
+def find_circles(cells, n):
+    """To X+5 whether a yard's total to itself is negative."""
+    X = cells.X
+    operations = []
+    for v in range(n):
+        operations += [(LESS, X + 4, cells.D + v * n + v, X + 2),
+                       (ADD, X + 5, X + 5, X + 4)]
+    return operations + [(BOTH, X + 5, X + 5, X + 5)]
+
+
+def mark_pairs(cells, n):
+    """FAR to each pair whose total is over FAR, for it has no walk."""
+    X = cells.X
+    operations = []
+    for entry in range(cells.D, cells.D + n * n):
+        operations += [(LESS, X + 4, X, entry), (MOVEIF, entry, X + 4, X)]
+    return operations
+
+
+def plan_of_method_4(header):
+    """The operations of method 4 in order, as (op, d, a, b)."""
+    n, m = header.yards, header.lanes
+    cells = cells_of_method_4(header)
+    yield from lay_table(cells, n)
+    for i in range(m):
+        yield from lay_lane(cells, n, i)
+        yield from update_table(cells, n)
+    for k in range(n):
+        yield from lay_stage(cells, n, k)
+        yield from update_table(cells, n)
+    yield from find_circles(cells, n)
+    yield from mark_pairs(cells, n)
+    yield OPEN, 0, cells.verdict, 0
+
+
 def find_yards_before(cells, n, m):
     """To B+v the from-yard of v's parent lane, v itself where there is none."""
     X = cells.X
@@ -475,8 +573,8 @@ def table_strips(cells, inputs):
 
 
 # What differs by method: how its network is given, the test of a word after
-# the header, the places of the cells, the plan, its length from n and m, and
-# whether there is a route among the results.
+# the header, the places of the cells, the plan, its length from n and m, how
+# many cells from D, P and R on are results, and how many yards may be sources.
 # How a network is given: the limit of m, how many words follow the header, and
 # where they are laid.
 
@@ -491,10 +589,15 @@ METHODS = {
     3: Method(LANES, sorted_lane_refusal, cells_of_method_3, plan_of_method_3,
               lambda n, m: (3 * n * n + 3 * n + 5
                             + m * (3 * n * n + 10 * n - 1))),
+    4: Method(LANES, lane_refusal, cells_of_method_4, plan_of_method_4,
+              lambda n, m: (3 * n ** 3 + 5 * n * n + 4 * n + 27
+                            + m * (3 * n * n + 6 * n)),
+              results=lambda n: {"D": n * n}, sources=lambda n: 1),
     5: Method(ROUTED_LANES, routed_refusal, cells_of_method_5,
               plan_of_method_5,
               lambda n, m: (3 * n * n + 2 * n + 4
-                            + m * (8 * n * n + 5 * n)), has_route=True),
+                            + m * (8 * n * n + 5 * n)),
+              results=lambda n: {"D": n, "P": n, "R": n - 1}),
 }
 
 
@@ -523,16 +626,24 @@ def log_length(header):
     return plan_length(header) + (cells_of(header).verdict is not None)
 
 
-def has_route(header):
-    """Whether the results of the header's method have a route."""
-    return METHODS[header.method].has_route
+def sources_of(method, n):
+    """How many yards, from 0 on, a header may name as its source."""
+    return METHODS[method].sources(n)
+
+
+def results_of(header):
+    """How many cells are results, by where they begin: D, P or R.
+
+    Distances begin at D, parents at P and a route at R.
+    """
+    return METHODS[header.method].results(header.yards)
 
 
 def lengths_needed(header):
     """The lengths of the buffers that a request needs."""
-    n = header.yards
-    return Lent(cells_of(header).total, log_length(header), n, n,
-                n - 1 if has_route(header) else 0)
+    results = results_of(header)
+    return Lent(cells_of(header).total, log_length(header),
+                *(results.get(region, 0) for region in "DPR"))
 
 
 def plan_operations(header):
@@ -663,7 +774,7 @@ def header_refusal(words):
         return Refusal(2)
     if header.lanes > form_of(header.method).most_lanes:
         return Refusal(3)
-    if header.source >= header.yards:
+    if header.source >= sources_of(header.method, header.yards):
         return Refusal(4)
     return None
 
@@ -761,15 +872,15 @@ def run_request(words, cells, log, distances, parents, route):
     if refusal:
         return refusal
     header = split_header(words[0])
-    n, where = header.yards, cells_of(header)
+    where = cells_of(header)
     cells[:where.total] = intake(words)
     ran = carry_out_plan(plan_words(header), cells, log)
     verdict = verdict_of(header, cells)
     if verdict == 0:
-        distances[:n] = cells[where.D:where.D + n]
-        parents[:n] = cells[where.P:where.P + n]
-        if has_route(header):
-            route[:n - 1] = cells[where.R:where.R + n - 1]
+        buffers = {"D": distances, "P": parents, "R": route}
+        for region, count in results_of(header).items():
+            first = getattr(where, region)
+            buffers[region][:count] = cells[first:first + count]
     return RequestRan(ran.rounds, ran.log_length, verdict)
 
 
@@ -799,15 +910,19 @@ def sizes_needed(words):
 
 # The desk's program
 
-def yard_lines(distances, parents, all_yards):
-    """A line `yard distance parent` for each yard listed, `-` for none.
-
-    An unreached yard is listed with `all_yards` alone.
-    """
+def yard_lines(distances, parents, with_unreached):
+    """A line `yard distance parent` for each yard listed, `-` for none."""
     return [f"{v} {'-' if distance == FAR else distance}"
             f" {'-' if parent == -1 else parent}"
             for v, (distance, parent) in enumerate(zip(distances, parents))
-            if all_yards or distance != FAR]
+            if with_unreached or distance != FAR]
+
+
+def pair_lines(n, distances, with_unreached):
+    """A line `from to distance` for each pair listed, `-` for none."""
+    return [f"{place // n} {place % n} {'-' if distance == FAR else distance}"
+            for place, distance in enumerate(distances)
+            if with_unreached or distance != FAR]
 
 
 def route_line(route):
@@ -815,11 +930,16 @@ def route_line(route):
     return " ".join(["route", *(str(lane) for lane in route if lane != -1)])
 
 
-def result_lines(header, distances, parents, route, all_yards):
-    """The lines of a run's results."""
-    n = header.yards
-    lines = yard_lines(distances[:n], parents[:n], all_yards)
-    if has_route(header):
+def result_lines(header, distances, parents, route, with_unreached):
+    """The lines of a run's results, by pairs where there are no parents.
+
+    Unreached yards and pairs are listed with `with_unreached` alone.
+    """
+    n, results = header.yards, results_of(header)
+    if "P" not in results:
+        return pair_lines(n, distances[:n * n], with_unreached)
+    lines = yard_lines(distances[:n], parents[:n], with_unreached)
+    if "R" in results:
         lines.append(route_line(route[:n - 1]))
     return lines
 
@@ -833,7 +953,7 @@ def refusal_line(refusal):
 def desk_lines(data, *arguments):
     """The lines the desk's program prints for the bytes it reads.
 
-    Every yard is listed if the first argument is `all`.
+    Every yard or pair is listed if the first argument is `all`.
     """
     words = [int.from_bytes(data[k:k + 8], "big")
              for k in range(0, len(data) - 7, 8)]

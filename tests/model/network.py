@@ -2,7 +2,8 @@
 
 A network's lanes are triples (from-yard, to-yard, price).  In method 2 no two
 of them join the same yards in the same direction; in method 3 they are sorted
-by to-yard.  The destination is there in method 5 alone.
+by to-yard.  The source is 0 in method 4.  The destination is there in method 5
+alone.
 """
 
 from collections import namedtuple
@@ -25,6 +26,11 @@ def header_of(network):
     """The header of a network's request."""
     lanes = len(network.lanes) if has_lanes(network) else 0
     return model.Header(network.method, network.yards, lanes, network.source)
+
+
+def where_of(network):
+    """Where the cells of a network's request lie."""
+    return model.cells_of(header_of(network))
 
 
 def input_words(network):
@@ -62,8 +68,13 @@ def run(network, surplus=0, lent=0):
 
 
 def walk_distances(network):
-    """Distances and loss circle by the second computation."""
+    """Distances and loss circle by the second computation.
+
+    In method 4 they are of all pairs, and the circle may be anywhere.
+    """
     n, lanes, source = network.yards, network.lanes, network.source
+    if network.method == 4:
+        return walks.from_every_yard(n, lanes)
     if has_lanes(network):
         return walks.bellman_ford(n, lanes, source)
     return walks.dijkstra(n, lanes, source), False
@@ -88,7 +99,7 @@ def agrees_with_passes(network, finished):
 
     The cells are looked at, which a loss circle leaves as well.
     """
-    n, where = network.yards, model.cells_of(header_of(network))
+    n, where = network.yards, where_of(network)
     distances, numbers, gains = walks.synchronous(n, network.lanes,
                                                   network.source)
     return (finished.answer.verdict == int(gains)
@@ -108,7 +119,7 @@ def agrees_with_parents(network, finished):
 
     The cells are looked at, which a loss circle leaves as well.
     """
-    n, where = network.yards, model.cells_of(header_of(network))
+    n, where = network.yards, where_of(network)
     parents = finished.cells[where.P:where.P + n]
     numbers = [None if parent == -1 else parent for parent in parents]
     met = walks.followed(network.destination, network.lanes, numbers, n - 1)
@@ -137,9 +148,11 @@ def agrees_with_walks(network, finished):
     if network.method == 5 and not agrees_with_route(network, finished,
                                                      distances):
         return False
-    n = network.yards
     found = [None if distance == model.FAR else distance
-             for distance in finished.distances[:n]]
+             for distance in finished.distances[:len(distances)]]
+    if network.method == 4:
+        return found == distances
+    n = network.yards
     parents = finished.parents[:n]
     no_parent = [v == network.source or distances[v] is None for v in range(n)]
     return (found == distances

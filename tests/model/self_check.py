@@ -1,7 +1,7 @@
 """Holds the model against the rules and against the second computation."""
 
 import random
-from collections import Counter
+from collections import Counter, namedtuple
 from itertools import islice
 
 import chains
@@ -10,9 +10,9 @@ import model
 import network
 import spelled
 import walks
-from model import (ADD, BOTH, COPY, EQUAL, FAR, LESS, MOVEIF, OPEN, SET,
-                   Header, Lane, Lent, PlanRan, PlanWritten, Refusal,
-                   RequestRan, TableEntry)
+from model import (ADD, BOTH, COPY, EQUAL, FAR, HIGHEST_PRICE, LESS, MOVEIF,
+                   OPEN, SET, Header, Lane, Lent, PlanRan, PlanWritten,
+                   Refusal, RequestRan, TableEntry)
 from network import Network
 
 SEED = 20240117
@@ -26,6 +26,7 @@ RANDOM_WALKS = 100
 LEAST_OF_A_SHAPE = 10
 SURPLUS = 3
 LENT = -7
+HIGH = (1 << 59) - (1 << 20)
 MOST_CELL = (1 << 63) - 1
 MOST_WORD = (1 << 64) - 1
 
@@ -40,10 +41,16 @@ ROUNDS_STATED = {
     1: lambda n, m: m * (n * n + 9 * n - 9) + n + 16 if m else 2,
     2: lambda n, m: 9 * n * n + 13 * n + 1,
     3: lambda n, m: 9 * n * m + n * n + 8 * n + 7 if m else 8 * n + 1,
+    4: lambda n, m: 7 * n + 7 * m + 16 if m else 7 * n + 9,
     5: lambda n, m: (m * (n - 1) * (n + 9)
                      + max(m * n + n + 16, m + n * n + 5 * n + 1)
                      if m else max(2, n * n + 5 * n - 5)),
 }
+
+
+# A run of method 4: its least and its greatest sum, both exact, its tables
+# before the stages and after each of them, and the cells that it left.
+Watched = namedtuple("Watched", "least greatest tables cells")
 
 
 class Checks:
@@ -70,8 +77,8 @@ def rounds_by_formula(header):
 
 def answer_to(words):
     """The answer to a request whose buffers are long enough for any small n."""
-    return model.run_request(words, [0] * 2000, [0] * 9000, [0] * 32, [0] * 32,
-                             [0] * 31)
+    return model.run_request(words, [0] * 2000, [0] * 9000,
+                             *([0] * length for length in model.DESK_RESULTS))
 
 
 def refusal_of(answer):
@@ -186,6 +193,146 @@ def check_passes(checks):
                      f"method 3, a lane of {price} to its own yard")
 
 
+# Small requests of method 4, and its sums
+
+def check_tables(checks):
+    """Runs of method 4 among three yards: the table by rows, FAR for None."""
+    for lanes, *table in (
+            # No lanes, and lanes of one yard that gain nothing.
+            ([], 0, None, None, None, 0, None, None, None, 0),
+            ([(1, 1, 3), (2, 2, 0)],
+             0, None, None, None, 0, None, None, None, 0),
+            # A row is a from-yard.
+            ([(0, 1, 5)], 0, 5, None, None, 0, None, None, None, 0),
+            ([(2, 0, -5)], 0, None, None, None, 0, None, -5, None, 0),
+            # Two lanes, by each of the yards.
+            ([(1, 0, 5), (0, 2, 6)], 0, None, 6, 5, 0, 11, None, None, 0),
+            ([(1, 2, -5), (0, 1, -5)], 0, -5, -10, None, 0, -5, None, None, 0),
+            ([(0, 2, 1), (2, 1, 1)], 0, 2, 1, None, 0, None, None, 1, 0),
+            # Parallel lanes, and two lanes that are cheaper than one.
+            ([(0, 1, 7), (0, 1, 4), (0, 1, 5)],
+             0, 4, None, None, 0, None, None, None, 0),
+            ([(0, 1, 4), (0, 2, 9), (2, 1, -6)],
+             0, 3, 9, None, 0, None, None, -6, 0),
+            # Circles: of a gain, and of price 0.
+            ([(0, 1, 1), (1, 2, 1), (2, 0, 1)], 0, 1, 2, 2, 0, 1, 1, 2, 0),
+            ([(0, 1, 4), (1, 0, -4)], 0, 4, None, -4, 0, None, None, None, 0),
+            ([(0, 1, 4), (1, 2, -2), (2, 0, -2)],
+             0, 4, 2, -4, 0, -2, -2, 2, 0),
+            # A rebate does not make a walk to its from-yard.
+            ([(2, 0, -9), (2, 1, -9)], 0, None, None, None, 0, None, -9, -9, 0),
+            # The dearest lanes.
+            ([(0, 1, 100_000_000), (1, 2, 100_000_000)],
+             0, 100_000_000, 200_000_000, None, 0, 100_000_000, None, None, 0)):
+        finished = network.run(Network(4, 3, 0, lanes))
+        checks.equal((finished.answer.verdict, finished.distances),
+                     (0, network.marked(table, FAR)), f"table of {lanes}")
+
+
+def check_circles(checks):
+    """Loss circles of method 4, wherever they are; one yard."""
+    for lanes in ([(0, 0, -1)], [(2, 2, -1)], [(1, 1, 5), (1, 1, -1)],
+                  [(0, 1, 4), (1, 0, -5)], [(1, 2, -1), (2, 1, 0)],
+                  [(1, 2, 4), (2, 1, -5), (2, 0, 9)],
+                  [(0, 1, 1), (1, 2, 1), (2, 0, -3)]):
+        finished = network.run(Network(4, 3, 0, lanes), 0, LENT)
+        checks.equal((finished.answer.verdict, finished.distances),
+                     (1, [LENT] * 9), f"verdict of {lanes}")
+    checks.equal(network.run(Network(4, 1, 0, [])).answer,
+                 RequestRan(16, 40, 0), "method 4, one yard and no lane")
+    for price, verdict in ((-100_000_000, 1), (-1, 1), (0, 0),
+                           (100_000_000, 0)):
+        finished = network.run(Network(4, 1, 0, [(0, 0, price)]))
+        checks.equal((finished.answer, finished.distances),
+                     (RequestRan(30, 49, verdict), [0]),
+                     f"method 4, a lane of {price} to its own yard")
+
+
+def watched(case):
+    """A run of method 4, word by word."""
+    header = network.header_of(case)
+    n, m, D = header.yards, header.lanes, network.where_of(case).D
+    before = n * n + 2 * n + 24 + m * (3 * n * n + 6 * n)
+    stage = 3 * n * n + 2 * n
+    stage_ends = range(before, before + n * stage + 1, stage)
+    cells, tables = model.intake(network.request_words(case)), []
+    least = greatest = 0
+    for place, operation in enumerate(model.plan_operations(header)):
+        if place in stage_ends:
+            tables.append(cells[D:D + n * n])
+        op, _, a, b = operation
+        if op == ADD:
+            total = cells[a] + cells[b]
+            least, greatest = min(least, total), max(greatest, total)
+        model.carry_out(cells, *operation)
+    return Watched(least, greatest, tables, cells)
+
+
+def check_sums(checks, case):
+    """The sums and tables of a run of method 4 are within their bounds."""
+    run, n = watched(case), case.yards
+    checks.holds(-MOST_CELL - 1 <= run.least and run.greatest <= MOST_CELL,
+                 f"every sum is exact, {case}")
+    checks.holds(-HIGHEST_PRICE << n <= run.least and run.greatest <= 2 * HIGH,
+                 f"bounds of the sums of {case}")
+    checks.equal(len(run.tables), n + 1, f"tables of {case}")
+    for stages, table in enumerate(run.tables):
+        bound = HIGHEST_PRICE << stages
+        checks.holds(all(abs(entry) <= bound or 0 <= HIGH - entry <= bound
+                         for entry in table),
+                     f"bounds after {stages} stages of {case}")
+    return run
+
+
+def hub(n):
+    """Lanes of the greatest rebate from yard 0 to each yard and back."""
+    return ([(0, v, -HIGHEST_PRICE) for v in range(n)]
+            + [(v, 0, -HIGHEST_PRICE) for v in range(1, n)])
+
+
+def check_hub(checks):
+    """The networks whose tables come closest to their bounds.
+
+    Around a hub each stage doubles every entry.  Where a further yard has no
+    lane but one to itself, the entries that stand for no walk do the same.
+    """
+    for n in (1, 2, 3, 5, 32):
+        case = Network(4, n, 0, hub(n))
+        run, where = check_sums(checks, case), network.where_of(case)
+        checks.equal(run.tables[1:], [[-HIGHEST_PRICE << stages] * n ** 2
+                                      for stages in range(1, n + 1)],
+                     f"tables of the hub of {n} yards")
+        checks.equal((run.least, run.greatest, run.cells[where.verdict]),
+                     (-HIGHEST_PRICE << n, 2 * HIGH if n > 1 else HIGH, 1),
+                     f"sums and verdict of the hub of {n} yards")
+    for n in (2, 3, 5, 32):
+        last = n - 1
+        case = Network(4, n, 0, hub(last) + [(last, last, -HIGHEST_PRICE)])
+        run, where = check_sums(checks, case), network.where_of(case)
+        checks.equal(run.tables[n][last],
+                     HIGH - (HIGHEST_PRICE << last) - HIGHEST_PRICE,
+                     f"no walk from the hub to yard {last}")
+        checks.equal((run.cells[where.D + last], run.cells[where.verdict]),
+                     (FAR, 1), f"mark and verdict, yard {last}")
+
+
+def check_largest_table(checks):
+    """A network of method 4 of the greatest size, without a loss circle."""
+    rng = random.Random(SEED)
+    heights = [rng.randrange(50_000_000) for _ in range(32)]
+    ends = [(rng.randrange(32), rng.randrange(32)) for _ in range(128)]
+    case = Network(4, 32, 0, [
+        (u, v, heights[v] - heights[u] + rng.choice((0, 0, 1, 50_000_000)))
+        for u, v in ends])
+    finished = network.run(case)
+    checks.equal(finished.answer, RequestRan(1_136, 521_372, 0),
+                 "answer of the largest table")
+    checks.holds(network.agrees_with_walks(case, finished),
+                 "walks of the largest table")
+    checks.holds(FAR in finished.distances,
+                 "a pair without a walk in the largest table")
+
+
 # Small requests of method 5
 
 def check_routes(checks):
@@ -250,6 +397,7 @@ def check_intake(checks):
             (Network(1, 2, 0, [(0, 1, -5)]), [0, 1, -5, *[0] * 14]),
             (Network(2, 2, 0, [(0, 1, 7)]), [FAR, 7, FAR, FAR, *[0] * 16]),
             (Network(3, 2, 0, [(1, 1, -5)]), [1, 0, 1, -5, *[0] * 24]),
+            (Network(4, 2, 0, [(0, 1, -5)]), [0, 1, -5, *[0] * 16]),
             (Network(5, 2, 0, [(0, 1, -5)], 1),
              [0, 1, -5, *[0] * 14, 1, *[0] * 3])):
         checks.equal(model.intake(network.request_words(case)), cells,
@@ -280,11 +428,12 @@ def check_lengths(checks):
             (Header(1, 32, 128, 0), 1_060_836, 1_060_837, 488, 166_832),
             (Header(2, 32, 0, 0), 44_227, 44_227, model.DESK_CELLS, 9_633),
             (Header(3, 32, 128, 0), 437_221, 437_222, 8_874, 38_151),
+            (Header(4, 32, 128, 0), 521_371, 521_372, 1_510, 1_136),
             (Header(5, 32, 128, 0), 1_072_196, 1_072_197, 552, 166_832)):
         checks.equal([model.plan_length(header), model.log_length(header),
                       model.cells_of(header).total, rounds_by_formula(header)],
                      stated, f"figures of {header}")
-    for method in (1, 5):
+    for method in (1, 4, 5):
         largest = Header(method, 32, 128, 0)
         checks.equal(model.rounds_of(model.plan_operations(largest)),
                      rounds_by_formula(largest), f"rounds of {largest}")
@@ -297,6 +446,15 @@ def check_lengths(checks):
         for m in range(5):
             check_counted(checks, Header(1, n, m, n - 1))
             check_counted(checks, Header(3, n, m, n - 1))
+
+
+def check_lengths_method_4(checks):
+    """The same of method 4."""
+    for n in range(1, 8):
+        for m in range(8):
+            check_counted(checks, Header(4, n, m, 0))
+    check_counted(checks, Header(4, 12, 12, 0))
+    check_counted(checks, Header(4, 32, 0, 0))
 
 
 def check_lengths_method_5(checks):
@@ -316,13 +474,19 @@ def check_sizes(checks):
     for header, *stated in ((Header(1, 3, 2, 0), 23, 174, 3, 3, 0),
                             (Header(2, 3, 0, 0), 30, 147, 3, 3, 0),
                             (Header(3, 3, 2, 0), 45, 154, 3, 3, 0),
+                            (Header(4, 3, 2, 0), 30, 256, 9, 0, 0),
+                            (Header(4, 1, 0, 0), 10, 40, 1, 0, 0),
+                            (Header(4, 32, 128, 0),
+                             1_510, 521_372, 1_024, 0, 0),
                             (Header(5, 3, 2, 0), 29, 212, 3, 3, 2),
                             (Header(5, 1, 0, 0), 13, 10, 1, 1, 0),
                             (Header(5, 32, 32, 0), 264, 270_405, 32, 32, 31)):
         checks.equal(model.sizes_needed([model.join_header(header)]),
                      Lent(*stated), f"sizes of {header}")
-    for header, number in ((Header(4, 1, 0, 0), 1), (Header(5, 33, 0, 0), 2),
-                           (Header(5, 1, 129, 0), 3), (Header(5, 1, 0, 1), 4)):
+    for header, number in ((Header(0, 1, 0, 0), 1), (Header(6, 1, 0, 0), 1),
+                           (Header(4, 33, 0, 0), 2), (Header(5, 33, 0, 0), 2),
+                           (Header(4, 1, 129, 0), 3), (Header(5, 1, 129, 0), 3),
+                           (Header(4, 2, 0, 1), 4), (Header(5, 1, 0, 1), 4)):
         checks.equal(model.sizes_needed([model.join_header(header)]),
                      Refusal(number), f"sizes of {header}")
     checks.equal(model.sizes_needed([]), Refusal(1), "sizes of no header")
@@ -371,7 +535,8 @@ def check_spelled_plans(checks):
     for header, plan, places in (
             (Header(1, 2, 1, 0), spelled.PLAN_1, spelled.PLACES_1),
             (Header(2, 2, 0, 1), spelled.PLAN_2, spelled.PLACES_2),
-            (Header(3, 2, 2, 1), spelled.PLAN_3, spelled.PLACES_3)):
+            (Header(3, 2, 2, 1), spelled.PLAN_3, spelled.PLACES_3),
+            (Header(4, 2, 2, 0), spelled.PLAN_4, spelled.PLACES_4)):
         checks.equal(list(model.plan_operations(header)),
                      spelled.operations(plan, places), f"plan of {header}")
     header = Header(5, 3, 2, 1)
@@ -382,11 +547,18 @@ def check_spelled_plans(checks):
 
 
 def check_figures_lanes(checks):
-    """The figures' networks have as many lanes as their log allows."""
+    """The figures' networks have as many lanes as their log allows.
+
+    In method 4 they have as many as in method 1, which leaves some of the log.
+    """
+    most = {method: max(m for m in range(model.MOST_LANES + 1)
+                        if FIGURES_LOG_WORDS >= model.log_length(
+                            Header(method, figures.YARDS, m, 0)))
+            for method in figures.LANES}
     for method, lanes in figures.LANES.items():
-        most = max(m for m in range(model.MOST_LANES + 1) if FIGURES_LOG_WORDS
-                   >= model.log_length(Header(method, figures.YARDS, m, 0)))
-        checks.equal(lanes, most, f"lanes of the figures, method {method}")
+        allowed = most[1] if method == 4 else most[method]
+        checks.equal(lanes, allowed, f"lanes of the figures, method {method}")
+    checks.holds(most[1] <= most[4], "the log of the figures, method 4")
 
 
 # Refusals
@@ -436,20 +608,34 @@ def check_methods(checks):
     admitted = [method for method in range(16)
                 if model.header_refusal([model.join_header(
                     Header(method, 1, 0, 0))]) is None]
-    checks.equal(admitted, [1, 2, 3, 5], "methods")
+    checks.equal(admitted, [1, 2, 3, 4, 5], "methods")
 
 
-def climb_lanes(checks, method, enough, unsorted, destinations):
+def check_sources(checks):
+    """Which sources 4 refuses: in method 4 every one but 0."""
+    for n in (1, 2, 31, 32):
+        for source in (*range(n + 2), 64, (1 << 20) - 1):
+            for method in model.METHODS:
+                wrong = source > 0 if method == 4 else source >= n
+                header = model.join_header(Header(method, n, 0, source))
+                checks.equal(model.header_refusal([header]),
+                             Refusal(4) if wrong else None,
+                             f"source {source} of {n} yards, method {method}")
+
+
+def climb_lanes(checks, method, enough, unsorted, destinations, sources=(2, 1)):
     """The refusals of a method with lanes before a run, in their order.
 
     `unsorted` is there if the method refuses a second lane whose to-yard is
     below the first one's: that refusal, and a lane that is right.
     `destinations` are there if the method has one: a word that it refuses, and
-    one that is right.
+    one that is right.  `sources` are one that it refuses, and one that is
+    right.
     """
+    wrong, right = sources
     headers = [Header(15, 33, 129, 33), Header(method, 33, 129, 33),
-               Header(method, 2, 129, 2), Header(method, 2, 2, 2),
-               Header(method, 2, 2, 1)]
+               Header(method, 2, 129, wrong), Header(method, 2, 2, wrong),
+               Header(method, 2, 2, right)]
     dear, right = Lane(0, 1, 0, 100_000_001), Lane(0, 1, 0, 100_000_000)
     second = [Lane(2, 2, 1, -100_000_001), Lane(2, 2, 0, -100_000_001),
               Lane(0, 2, 0, -100_000_001), Lane(0, 0, 0, -100_000_001),
@@ -466,12 +652,30 @@ def climb_lanes(checks, method, enough, unsorted, destinations):
 
 
 def check_order_lanes(checks):
-    """The refusals of methods 1, 3 and 5, in their order."""
+    """The refusals of methods 1, 3, 4 and 5, in their order."""
     climb_lanes(checks, 1, Lent(20, 85, 2, 2, 0), {}, ())
     climb_lanes(checks, 3, Lent(36, 86, 2, 2, 0),
                 {Refusal(15, 1): Lane(0, 1, 0, -100_000_000)}, ())
+    climb_lanes(checks, 4, Lent(22, 128, 4, 0, 0), {}, (), sources=(1, 0))
     for wrong in (2, 1 << 63, MOST_WORD):
         climb_lanes(checks, 5, Lent(24, 105, 2, 2, 1), {}, (wrong, 1))
+
+
+def check_table_buffers(checks):
+    """Method 4 needs n * n distances, and looks at no parents and no route."""
+    words = network.request_words(Network(4, 3, 0, [(0, 1, 5)]))
+    needed = model.lengths_needed(model.split_header(words[0]))
+    for short in (0, 3, 8):
+        lengths = needed._replace(distances=short, parents=32, route=31)
+        refused_unchanged(checks, words, lengths, Refusal(8))
+    for parents, route in ((0, 0), (1, 0), (0, 1), (3, 2), (32, 31)):
+        lengths = needed._replace(distances=10, parents=parents, route=route)
+        buffers = Lent(*([LENT] * length for length in lengths))
+        checks.equal(model.run_request(words, *buffers), RequestRan(44, 211, 0),
+                     "method 4 beside buffers that it does not need")
+        checks.equal(buffers[2:], ([0, 5, FAR, FAR, 0, FAR, FAR, FAR, 0, LENT],
+                                   [LENT] * parents, [LENT] * route),
+                     "results of method 4")
 
 
 def check_destination(checks):
@@ -486,7 +690,7 @@ def check_destination(checks):
                          f"destination {word} of {n} yards")
     lane = model.join_lane(Lane(0, 1, 0, 5))
     for m in range(3):
-        for method, count in ((1, m), (3, m), (5, m + 1)):
+        for method, count in ((1, m), (3, m), (4, m), (5, m + 1)):
             header = model.join_header(Header(method, 2, m, 0))
             for words in range(m + 3):
                 answer = answer_to([header, *[lane] * min(words, m),
@@ -577,6 +781,54 @@ def check_desk_method_3(checks):
                  "desk, lanes that are not sorted")
 
 
+def check_desk_method_4(checks):
+    """The desk's lines for method 4: pairs, refusals, what its buffers hold."""
+    data = bytes.fromhex("4000020000100000" + "00010000FFFFFFFB")
+    listed = ["4 2 1 0 37 0", "0 0 0", "0 1 -5", "1 1 0"]
+    for arguments in ((), ("",), ("al",), ("x", "all")):
+        checks.equal(model.desk_lines(data, *arguments), listed,
+                     f"desk, method 4, arguments {arguments}")
+    for arguments in (("all",), ("all", "x")):
+        checks.equal(model.desk_lines(data, *arguments),
+                     [*listed[:3], "1 0 -", listed[3]],
+                     f"desk, method 4, arguments {arguments}")
+    checks.equal(model.desk_lines(bytes.fromhex("4000030000000000"), "all"),
+                 ["4 3 0 0 30 0", "0 0 0", "0 1 -", "0 2 -", "1 0 -", "1 1 0",
+                  "1 2 -", "2 0 -", "2 1 -", "2 2 0"],
+                 "desk, method 4, no lanes")
+    rebate, apart = "00000000FFFFFFFF", "01020000FFFFFFFF" + "02010000FFFFFFFF"
+    printed = {
+        "0000010000000000": "refused 1", "6000010000000000": "refused 1",
+        "4000210000000001": "refused 2", "4000010008100001": "refused 3",
+        "4000020000000001": "refused 4", "4000020000000001" + "00": "refused 4",
+        "40000200000FFFFF": "refused 4", "4000020000100000": "refused 5",
+        "4000020000000000" + "00": "refused 5",
+        "4000010000100000" + rebate * 2: "refused 5",
+        "4000010000100000" + "0101000105F5E101": "refused 10 0",
+        "4000010000100000" + "0101000005F5E101": "refused 13 0",
+        "4000010000100000" + "0001000005F5E101": "refused 14 0",
+        "4000010000100000" + "0000000005F5E101": "refused 11 0",
+        "4000010000100000" + rebate: "refused 12",
+        "4000030000200000" + apart: "refused 12",
+    }
+    for request, line in printed.items():
+        for arguments in ((), ("all",)):
+            checks.equal(model.desk_lines(bytes.fromhex(request), *arguments),
+                         [line], f"desk, {request}")
+    for n, m, line in ((2, 128, "4 2 128 0 926 0"),
+                       (3, 128, "4 3 128 0 933 0"),
+                       (4, 109, "4 4 109 0 807 0"), (4, 110, "refused 7"),
+                       (13, 0, "4 13 0 0 100 0"), (13, 1, "4 13 1 0 114 0"),
+                       (13, 2, "refused 7"), (14, 0, "refused 7"),
+                       (26, 128, "refused 7"), (27, 124, "refused 7"),
+                       (27, 125, "refused 6"), (32, 0, "refused 7"),
+                       (32, 21, "refused 7"), (32, 22, "refused 6"),
+                       (32, 128, "refused 6")):
+        data = model.join_header(Header(4, n, m, 0)).to_bytes(8, "big")
+        checks.equal(model.desk_lines(data + bytes(8 * m))[0], line,
+                     f"desk, method 4, {n} yards and {m} lanes")
+
+
 def check_desk_method_5(checks):
     """The desk's lines for method 5: the route, 16, and what its log holds."""
     lanes = "0001000000000007" + "02010000FFFFFFFC" + "0002000000000009"
@@ -618,16 +870,17 @@ def check_plan_writer(checks):
     """Plan writing and its refusals."""
     refused = ((None, 1), (Header(15, 0, 0, 0), 1), (Header(1, 0, 129, 0), 2),
                (Header(2, 1, 1, 1), 3), (Header(1, 1, 129, 1), 3),
-               (Header(3, 1, 129, 1), 3), (Header(5, 1, 129, 1), 3),
-               (Header(1, 1, 128, 1), 4), (Header(3, 1, 128, 1), 4),
+               (Header(3, 1, 129, 1), 3), (Header(4, 1, 129, 1), 3),
+               (Header(5, 1, 129, 1), 3), (Header(1, 1, 128, 1), 4),
+               (Header(3, 1, 128, 1), 4), (Header(4, 2, 128, 1), 4),
                (Header(5, 1, 128, 1), 4))
     for header, number in refused:
         words = [] if header is None else [model.join_header(header)]
         checks.equal(model.write_plan(words, []), Refusal(number),
                      "plan writer")
     for header in (Header(1, 1, 0, 0), Header(1, 3, 2, 1), Header(2, 2, 0, 1),
-                   Header(3, 1, 0, 0), Header(3, 3, 2, 1), Header(5, 1, 0, 0),
-                   Header(5, 3, 2, 1)):
+                   Header(3, 1, 0, 0), Header(3, 3, 2, 1), Header(4, 1, 0, 0),
+                   Header(4, 3, 2, 0), Header(5, 1, 0, 0), Header(5, 3, 2, 1)):
         words, length = [model.join_header(header)], model.plan_length(header)
         buffer = [LENT] * (length - 1)
         checks.equal(model.write_plan(words, buffer), Refusal(7),
@@ -810,12 +1063,25 @@ def random_chain(rng):
     return Network(5, n, yards[0], lanes, yards[-1])
 
 
+def random_apart(rng):
+    """A network of method 4 with many rebates; no lane leaves yard 0."""
+    n = rng.randint(2, 6)
+    lanes = [(rng.randrange(1, n), rng.randrange(n), rng.randint(-4, 6))
+             for _ in range(rng.randint(1, 10))]
+    return Network(4, n, 0, lanes)
+
+
 def random_table(rng, n, kind):
     """Random lanes of method 2, of one of four kinds of prices."""
     highest = (2, 9, 100, 100_000_000)[kind]
     share = rng.choice((0.2, 0.5, 1.0))
     return [(u, v, rng.randint(0, highest)) for u in range(n) for v in range(n)
             if rng.random() < share]
+
+
+def random_source(rng, method, n):
+    """A random source; method 4 has 0 alone."""
+    return rng.randrange(model.sources_of(method, n))
 
 
 def random_network(rng, method, n, m, source):
@@ -834,10 +1100,10 @@ def several_end_least(lanes, yard, distances):
                for lane in lanes) > 1
 
 
-def shapes_of(case):
+def lane_shapes(case):
     """What a run over lanes could get wrong, and if it is there."""
     lanes = case.lanes
-    distances, loss_circle = network.walk_distances(case)
+    _, loss_circle = network.walk_distances(case)
     return {
         "one yard": case.yards == 1,
         "no lanes": not lanes,
@@ -846,11 +1112,41 @@ def shapes_of(case):
         "a circle of price 0": any((v, u, -price) in lanes
                                    for u, v, price in lanes),
         "a loss circle": loss_circle,
+    }
+
+
+def source_shapes(case):
+    """What besides that a run from one source could get wrong."""
+    lanes = case.lanes
+    distances, loss_circle = network.walk_distances(case)
+    return {
         "a rebate from an unreached yard": any(
             distances[u] is None and price < 0 for u, _, price in lanes),
         "a tie": not loss_circle and any(
             several_end_least(lanes, v, distances)
             for v in range(case.yards)),
+    }
+
+
+def table_shapes(case):
+    """What besides that a run of method 4 could get wrong.
+
+    Each row is looked at as a network of its own from that row's yard.
+    """
+    rows = [case._replace(method=1, source=v) for v in range(case.yards)]
+    circles = [network.walk_distances(row)[1] for row in rows]
+    shapes = [source_shapes(row) for row in rows]
+    distances, loss_circle = network.walk_distances(case)
+    return {
+        "a loss circle that yard 0 reaches": circles[0],
+        "a loss circle that yard 0 does not reach": (loss_circle
+                                                     and not circles[0]),
+        "a pair without a walk": not loss_circle and None in distances,
+        "a walk between all pairs": (not loss_circle and case.yards > 1
+                                     and None not in distances),
+        "a negative total": not loss_circle and any(
+            distance is not None and distance < 0 for distance in distances),
+        **{name: any(row[name] for row in shapes) for name in shapes[0]},
     }
 
 
@@ -918,7 +1214,7 @@ def check_random_run(checks, case):
 def check_random_pair(checks, rng, method):
     """Two random requests with the same public part; their verdicts."""
     n = rng.randint(1, 6)
-    m, source = rng.randint(0, 10), rng.randrange(n)
+    m, source = rng.randint(0, 10), random_source(rng, method, n)
     pair = [random_network(rng, method, n, m, source) for _ in range(2)]
     (log, verdict), (other_log, other_verdict) = \
         [check_random_run(checks, case) for case in pair]
@@ -934,7 +1230,7 @@ def check_random(checks):
     for _ in range(RANDOM_PAIRS):
         for method, told in verdicts.items():
             told += check_random_pair(checks, rng, method)
-    for method in (1, 3, 5):
+    for method in (1, 3, 4, 5):
         checks.holds(min(map(verdicts[method].count, (0, 1))) >= 50,
                      f"both verdicts are common in method {method}")
     for _ in range(RANDOM_PLANS):
@@ -943,12 +1239,13 @@ def check_random(checks):
         check_depths_random(checks, rng)
 
 
-def check_shapes(checks, cases, own_shapes):
+def check_shapes(checks, cases, *shapes_of):
     """Random networks of one method, among which every shape is common."""
     shapes = Counter()
     for case in cases:
         check_random_run(checks, case)
-        shapes.update(shapes_of(case) | own_shapes(case))
+        for shapes_of_case in shapes_of:
+            shapes.update(shapes_of_case(case))
     checks.holds(min(shapes.values()) >= LEAST_OF_A_SHAPE,
                  f"every shape is common, {shapes}")
 
@@ -958,7 +1255,7 @@ def small_networks(rng, method):
     for _ in range(RANDOM_PAIRS):
         n = rng.randint(1, 6)
         yield random_network(rng, method, n, rng.randint(0, 10),
-                             rng.randrange(n))
+                             random_source(rng, method, n))
 
 
 def check_sorted_shapes(checks):
@@ -966,7 +1263,20 @@ def check_sorted_shapes(checks):
     rng = random.Random(SEED)
     cases = [Network(3, n, source, by_target(lanes)) for n, source, lanes
              in (random_ties(rng) for _ in range(RANDOM_TIES))]
-    check_shapes(checks, [*cases, *small_networks(rng, 3)], sorted_shapes)
+    check_shapes(checks, [*cases, *small_networks(rng, 3)], lane_shapes,
+                 source_shapes, sorted_shapes)
+
+
+def check_table_shapes(checks):
+    """Random networks of method 4, and the bounds of their sums."""
+    rng = random.Random(SEED)
+    cases = [Network(4, n, 0, lanes) for n, _, lanes
+             in (random_ties(rng) for _ in range(RANDOM_TIES))]
+    cases += [random_apart(rng) for _ in range(RANDOM_CHAINS)]
+    cases += small_networks(rng, 4)
+    check_shapes(checks, cases, lane_shapes, table_shapes)
+    for case in cases:
+        check_sums(checks, case)
 
 
 def check_route_shapes(checks):
@@ -976,7 +1286,7 @@ def check_route_shapes(checks):
              in (random_ties(rng) for _ in range(RANDOM_TIES))]
     cases += [random_chain(rng) for _ in range(RANDOM_CHAINS)]
     cases += small_networks(rng, 5)
-    check_shapes(checks, cases, route_shapes)
+    check_shapes(checks, cases, lane_shapes, source_shapes, route_shapes)
     for case in cases:
         finished = network.run(case)
         other = network.run(case._replace(method=1, destination=None))
@@ -996,6 +1306,27 @@ def check_random_walks(checks):
         distances, _, gains = walks.synchronous(*part)
         checks.equal(walks.bellman_ford(*part), expected, f"walks of {part}")
         checks.equal((distances, gains), expected, f"passes of {part}")
+
+
+def check_random_tables(checks):
+    """The tables of small networks, by every walk, and by runs of method 1."""
+    rng = random.Random(SEED)
+    for _ in range(RANDOM_WALKS):
+        n, m = rng.randint(1, 4), rng.randint(0, 6)
+        lanes = random_lanes(rng, n, m, rng.randrange(4))
+        finished = network.run(Network(4, n, 0, lanes), 0, LENT)
+        rows = [walks.exhaustive(n, lanes, yard) for yard in range(n)]
+        loss_circle = any(row[1] for row in rows)
+        checks.equal(finished.answer.verdict, int(loss_circle),
+                     f"verdict of {lanes}, method 4")
+        if loss_circle:
+            continue
+        for yard, (distances, _) in enumerate(rows):
+            row = finished.distances[n * yard:n * yard + n]
+            checks.equal(row, network.marked(distances, FAR),
+                         f"row {yard} of {lanes}")
+            checks.equal(row, network.run(Network(1, n, yard, lanes)).distances,
+                         f"row {yard} of {lanes} in method 1")
 
 
 def check_random_routes(checks):
@@ -1026,15 +1357,18 @@ def main():
     checks = Checks()
     for check in (check_edge_plan, check_edge_printed, check_edge_method_1,
                   check_edge_method_2, check_edge_limits, check_edge_cells,
-                  check_passes, check_routes, check_fields, check_intake,
-                  check_lengths, check_lengths_method_5, check_sizes,
-                  check_depths, check_spelled_plans, check_figures_lanes,
-                  check_methods, check_order_lanes, check_destination,
-                  check_sorted, check_order_method_2, check_desk,
-                  check_desk_listings, check_desk_method_3,
-                  check_desk_method_5, check_plan_writer, check_foreign_words,
-                  check_foreign_order, check_replay_ends, check_random,
-                  check_sorted_shapes, check_route_shapes, check_random_walks,
+                  check_passes, check_tables, check_circles, check_hub,
+                  check_largest_table, check_routes, check_fields, check_intake,
+                  check_lengths, check_lengths_method_4,
+                  check_lengths_method_5, check_sizes, check_depths,
+                  check_spelled_plans, check_figures_lanes, check_methods,
+                  check_sources, check_order_lanes, check_table_buffers,
+                  check_destination, check_sorted, check_order_method_2,
+                  check_desk, check_desk_listings, check_desk_method_3,
+                  check_desk_method_4, check_desk_method_5, check_plan_writer,
+                  check_foreign_words, check_foreign_order, check_replay_ends,
+                  check_random, check_sorted_shapes, check_table_shapes,
+                  check_route_shapes, check_random_walks, check_random_tables,
                   check_random_routes):
         check(checks)
     print(f"model: {checks.count} checks passed")

@@ -194,6 +194,91 @@ MOVEIF X+8 X+5 X+5
 OPEN X+8
 """
 
+# Method 4, two yards, two lanes: the cells are 22, the update comes four times.
+PLACES_4 = {"from": 0, "to": 2, "price": 4, "D": 6, "C": 10, "R": 12, "Y": 14,
+            "X": 16}
+START_4 = """
+SET Y+0 0
+SET Y+1 1
+SET X+0 549755813887
+SET X+1 549755813887
+""" + 20 * "ADD X+1 X+1 X+1\n" + """
+SET X+2 0
+SET X+5 0
+COPY D+0 X+1
+COPY D+1 X+1
+COPY D+2 X+1
+COPY D+3 X+1
+COPY D+0 X+2
+COPY D+3 X+2
+"""
+UPDATE_4 = """
+ADD X+3 C+0 R+0
+LESS X+4 X+3 D+0
+MOVEIF D+0 X+4 X+3
+ADD X+3 C+0 R+1
+LESS X+4 X+3 D+1
+MOVEIF D+1 X+4 X+3
+ADD X+3 C+1 R+0
+LESS X+4 X+3 D+2
+MOVEIF D+2 X+4 X+3
+ADD X+3 C+1 R+1
+LESS X+4 X+3 D+3
+MOVEIF D+3 X+4 X+3
+"""
+PLAN_4 = START_4 + """
+COPY C+0 X+1
+EQUAL X+4 from+0 Y+0
+MOVEIF C+0 X+4 X+2
+COPY R+0 X+1
+EQUAL X+4 to+0 Y+0
+MOVEIF R+0 X+4 price+0
+COPY C+1 X+1
+EQUAL X+4 from+0 Y+1
+MOVEIF C+1 X+4 X+2
+COPY R+1 X+1
+EQUAL X+4 to+0 Y+1
+MOVEIF R+1 X+4 price+0
+""" + UPDATE_4 + """
+COPY C+0 X+1
+EQUAL X+4 from+1 Y+0
+MOVEIF C+0 X+4 X+2
+COPY R+0 X+1
+EQUAL X+4 to+1 Y+0
+MOVEIF R+0 X+4 price+1
+COPY C+1 X+1
+EQUAL X+4 from+1 Y+1
+MOVEIF C+1 X+4 X+2
+COPY R+1 X+1
+EQUAL X+4 to+1 Y+1
+MOVEIF R+1 X+4 price+1
+""" + UPDATE_4 + """
+COPY C+0 D+0
+COPY R+0 D+0
+COPY C+1 D+2
+COPY R+1 D+1
+""" + UPDATE_4 + """
+COPY C+0 D+1
+COPY R+0 D+2
+COPY C+1 D+3
+COPY R+1 D+3
+""" + UPDATE_4 + """
+LESS X+4 D+0 X+2
+ADD X+5 X+5 X+4
+LESS X+4 D+3 X+2
+ADD X+5 X+5 X+4
+BOTH X+5 X+5 X+5
+LESS X+4 X+0 D+0
+MOVEIF D+0 X+4 X+0
+LESS X+4 X+0 D+1
+MOVEIF D+1 X+4 X+0
+LESS X+4 X+0 D+2
+MOVEIF D+2 X+4 X+0
+LESS X+4 X+0 D+3
+MOVEIF D+3 X+4 X+0
+OPEN X+5
+"""
+
 # Method 5, three yards, two lanes: the cells are 29. What comes after the words
 # of method 1.
 PLACES_5 = {"from": 0, "to": 2, "price": 4, "D": 6, "P": 9, "Y": 12, "X": 15,

@@ -31,6 +31,16 @@ def bellman_ford(n, lanes, source):
     return best, lengthen(best, lanes) != best
 
 
+def from_every_yard(n, lanes):
+    """Distances between all pairs of yards by rows, the row the from-yard.
+
+    Also whether there is a loss circle, whichever yard it is reached from.
+    """
+    rows = [bellman_ford(n, lanes, yard) for yard in range(n)]
+    return ([distance for row, _ in rows for distance in row],
+            any(loss_circle for _, loss_circle in rows))
+
+
 def least_offer(best, lanes, yard):
     """The least total by a lane to the yard, and the lowest such lane.
 

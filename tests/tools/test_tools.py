@@ -1,7 +1,7 @@
 """Tests tools/request.py and tools/log.py with document 01's own words and figures.
 
 The plans that log.py is shown are written here a second time, from the rules' lines (document 01's, and docs/RULES.md for
-methods 3 and 5), so that its listing and its rounds are held against figures printed there.
+methods 3, 4 and 5), so that its listing and its rounds are held against figures printed there.
 """
 
 import codecs
@@ -130,6 +130,40 @@ def plan_of_method_3(n, m, source):
     return words + [word(OPEN, 0, X + 8)]
 
 
+def update_of_method_4(n, D, C, R, X):
+    """The words by which each pair of vertices takes the sum of C and R, where it is less."""
+    words = []
+    for i, j in product(range(n), repeat=2):
+        entry = D + i * n + j
+        words += [word(ADD, X + 3, C + i, R + j), word(LESS, X + 4, X + 3, entry), word(MOVEIF, entry, X + 4, X + 3)]
+    return words
+
+
+def plan_of_method_4(n, m):
+    """The plan of method 4."""
+    D, C = 3 * m, 3 * m + n * n
+    R, Y, X = C + n, C + 2 * n, C + 3 * n
+    update = update_of_method_4(n, D, C, R, X)
+    words = [word(4, n, m)] + [put(Y + v, v) for v in range(n)] + [put(X, FAR), put(X + 1, FAR)]
+    words += [word(ADD, X + 1, X + 1, X + 1)] * 20 + [put(X + 2, 0), put(X + 5, 0)]
+    words += [word(COPY, D + k, X + 1) for k in range(n * n)] + [word(COPY, D + v * (n + 1), X + 2) for v in range(n)]
+    for i in range(m):
+        for v in range(n):
+            words += [word(COPY, C + v, X + 1), word(EQUAL, X + 4, i, Y + v), word(MOVEIF, C + v, X + 4, X + 2)]
+            words += [word(COPY, R + v, X + 1), word(EQUAL, X + 4, m + i, Y + v), word(MOVEIF, R + v, X + 4, 2 * m + i)]
+        words += update
+    for k in range(n):
+        for v in range(n):
+            words += [word(COPY, C + v, D + v * n + k), word(COPY, R + v, D + k * n + v)]
+        words += update
+    for v in range(n):
+        words += [word(LESS, X + 4, D + v * (n + 1), X + 2), word(ADD, X + 5, X + 5, X + 4)]
+    words.append(word(BOTH, X + 5, X + 5, X + 5))
+    for k in range(n * n):
+        words += [word(LESS, X + 4, X, D + k), word(MOVEIF, D + k, X + 4, X)]
+    return words + [word(OPEN, 0, X + 5)]
+
+
 def plan_of_method_5(n, m, source):
     """The plan of method 5, which has the words of method 1's up to its OPEN."""
     P, Y, X = 3 * m + n, 3 * m + 2 * n, 3 * m + 3 * n
@@ -227,6 +261,17 @@ class RequestWords(unittest.TestCase):
         self.assertEqual(self.words("method 1\nyards 2\nsource 0\n" + lanes), [word(1, 2, 2)] + expected)
         self.assertEqual(self.words("method 3\nyards 2\nsource 0\n" + lanes, True), [word(3, 2, 2)] + expected)
 
+    def test_method_4_with_and_without_a_source(self):
+        lanes = "lane 0 1 7\nlane 1 0 -4\n"
+        expected = [word(4, 2, 2), 0x0001000000000007, 0x01000000FFFFFFFC]
+        for unchecked in (False, True):
+            for source in ("", "source 0\n"):
+                self.assertEqual(self.words(f"method 4\nyards 2\n{source}{lanes}", unchecked), expected)
+                self.assertEqual(self.words(f"{lanes}{source}yards 2\nmethod 4\n", unchecked), expected)
+                self.assertEqual(self.words(f"method 4\nyards 32\n{source}", unchecked), [word(4, 32)])
+        for source in (1, 2, 2**20 - 1):
+            self.assertEqual(self.words(f"method 4\nyards 2\nsource {source}\n", True), [word(4, 2, 0, source)])
+
     def test_destination_comes_last(self):
         expected = [word(5, 3, 2), 0x0001000000000007, 0x01020000FFFFFFFC, 2]
         lanes = "lane 0 1 7\nlane 1 2 -4\n"
@@ -265,7 +310,7 @@ class RequestWords(unittest.TestCase):
 
     def test_round_trip_of_random_networks(self):
         chance = random.Random(1)
-        for method in (1, 3, 5) * 20:
+        for method in (1, 3, 4, 5) * 20:
             n = chance.randint(1, 32)
             edges = [
                 (chance.randrange(n), chance.randrange(n), chance.randint(-100_000_000, 100_000_000))
@@ -273,7 +318,7 @@ class RequestWords(unittest.TestCase):
             ]
             if method == 3:
                 edges.sort(key=lambda edge: edge[1])
-            source = chance.randrange(n)
+            source = 0 if method == 4 else chance.randrange(n)
             lanes = "".join("lane {} {} {}\n".format(*edge) for edge in edges)
             destinations = [chance.randrange(n)] if method == 5 else []
             lasts = "".join(f"destination {vertex}\n" for vertex in destinations)
@@ -292,6 +337,7 @@ class RequestMessages(WithFolder):
     HEADER_1 = "method 1\nyards 2\nsource 0\n"
     HEADER_2 = "method 2\nyards 2\nsource 0\n"
     HEADER_3 = "method 3\nyards 3\nsource 0\n"
+    HEADER_4 = "method 4\nyards 3\n"
     HEADER_5 = "method 5\nyards 3\nsource 0\n"
 
     def complaints(self, text, *options):
@@ -317,11 +363,12 @@ class RequestMessages(WithFolder):
             self.HEADER_1 + "method 1\n": "line 4: `method` was given on line 1, expected it once",
             self.HEADER_1 + "yards 2\n": "line 4: `yards` was given on line 2, expected it once",
             self.HEADER_1 + "source 0\n": "line 4: `source` was given on line 3, expected it once",
-            "method one\nyards 1\nsource 0\n": "line 1: method `one` is no whole number, expected 1, 2, 3 or 5",
-            "method 4\nyards 1\nsource 0\n": "line 1: method 4 is out of range, expected 1, 2, 3 or 5",
+            "method one\nyards 1\nsource 0\n": "line 1: method `one` is no whole number, expected 1 to 5",
+            "method 0\nyards 1\nsource 0\n": "line 1: method 0 is out of range, expected 1 to 5",
             "method 1\nyards 0\nsource 0\n": "line 2: yards 0 is out of range, expected 1 to 32",
             "method 1\nyards 33\nsource 0\n": "line 2: yards 33 is out of range, expected 1 to 32",
             "method 1\nyards 2\nsource 2\n": "line 3: source 2 is out of range, expected 0 to 1",
+            "method 1\nyards 1\nsource 1\n": "line 3: source 1 is out of range, expected 0",
             self.HEADER_1 + "lane 2 0 0\n": "line 4: from-yard 2 is out of range, expected 0 to 1",
             self.HEADER_1 + "lane 0 -1 0\n": "line 4: to-yard -1 is out of range, expected 0 to 1",
             self.HEADER_1 + "lane 0 1 1e3\n": "line 4: price `1e3` is no whole number, expected -100000000 to 100000000",
@@ -344,7 +391,22 @@ class RequestMessages(WithFolder):
             self.HEADER_3 + "lane 0 1 100000001\n": "line 4: price 100000001 is out of range, expected -100000000 to 100000000",
             self.HEADER_3 + "lane 0 1 0\n" * 131: "line 132: one lane too many, expected at most 128 lanes",
             self.HEADER_3 + "row 0 0 0\n": "line 4: `row` in method 3, expected `lane FROM-YARD TO-YARD PRICE`",
-            "method 6\nyards 1\nsource 0\n": "line 1: method 6 is out of range, expected 1, 2, 3 or 5",
+            "method 6\nyards 1\nsource 0\n": "line 1: method 6 is out of range, expected 1 to 5",
+            self.HEADER_4 + "source 1\n": "line 3: source 1 is out of range, "
+            "expected 0 (method 4 gives totals from every yard)",
+            self.HEADER_4 + "source 3\n": "line 3: source 3 is out of range, "
+            "expected 0 (method 4 gives totals from every yard)",
+            self.HEADER_4 + "lane 0 1 5\nsource x\n": "line 4: source `x` is no whole number, "
+            "expected 0 (method 4 gives totals from every yard)",
+            self.HEADER_4 + "source\n": "line 3: wrong number of values after `source` (0), expected `source YARD`",
+            self.HEADER_4 + "source 0\nsource 0\n": "line 4: `source` was given on line 3, expected it once",
+            "method 4\nlane 0 0 0\n": "after line 2: the text has no `yards`, expected a line `yards NUMBER`",
+            self.HEADER_4 + "lane 0 3 0\n": "line 3: to-yard 3 is out of range, expected 0 to 2",
+            self.HEADER_4 + "lane 0 1 -100000001\n": "line 3: price -100000001 is out of range, "
+            "expected -100000000 to 100000000",
+            self.HEADER_4 + "lane 0 1 0\n" * 131: "line 131: one lane too many, expected at most 128 lanes",
+            self.HEADER_4 + "row 0 0 0\n": "line 3: `row` in method 4, expected `lane FROM-YARD TO-YARD PRICE`",
+            self.HEADER_4 + "destination 1\n": "line 3: `destination` in method 4, expected it in method 5 alone",
             self.HEADER_1 + "destination 1\n": "line 4: `destination` in method 1, expected it in method 5 alone",
             self.HEADER_2 + "row 0 0\nrow 0 0\ndestination 1\n": "line 6: `destination` in method 2, "
             "expected it in method 5 alone",
@@ -385,6 +447,10 @@ class RequestMessages(WithFolder):
             self.HEADER_5 + "destination -1\n": "line 4: destination -1 is out of range, "
             "expected 0 to 18446744073709551615 (64 bits)",
             "yards 1\nsource 0\n": "after line 2: the text has no `method`, expected a line `method NUMBER`",
+            "method 6\nyards 1\n": "after line 2: the text has no `source`, expected a line `source YARD`",
+            self.HEADER_4 + "source 1048576\n": "line 3: source 1048576 is out of range, "
+            "expected 0 to 1048575 (20 bits)",
+            self.HEADER_4 + "source 0\nsource 0\n": "line 4: `source` was given on line 3, expected it once",
         }
         for text, message in cases.items():
             with self.subTest(message):
@@ -468,10 +534,10 @@ class RequestMessages(WithFolder):
     def test_no_echo_of_a_bad_header(self):
         body = "source 5\ndestination 6\nrow 0 0 0\nrow 0\nlane 7 8 0\ndestination 7\n"
         expected = [
-            "line 1: method 4 is out of range, expected 1, 2, 3 or 5",
+            "line 1: method 6 is out of range, expected 1 to 5",
             "line 2: yards `x` is no whole number, expected 1 to 32",
         ]
-        self.assertEqual(self.complaints("method 4\nyards x\n" + body), expected)
+        self.assertEqual(self.complaints("method 6\nyards x\n" + body), expected)
         expected = [
             "line 2: `method` was given on line 1, expected it once",
             "line 4: `yards` was given on line 3, expected it once",
@@ -591,6 +657,42 @@ class Listing(WithFolder):
         ]
         self.assertEqual(self.listing(plan_of_method_3(1, 0, 0) + [0]), expected)
 
+    def test_log_of_method_4(self):
+        expected = [
+            "      0  4000010000100000  header method=4 yards=1 lanes=1 source=0",
+            "      1  0000060000000000  SET [6] <- 0",
+            "      2  0000077FFFFFFFFF  SET [7] <- 549755813887",
+            "      3  0000087FFFFFFFFF  SET [8] <- 549755813887",
+            *(f"{place:7}  2000080000800008  ADD [8] <- [8] + [8]" for place in range(4, 24)),
+            "     24  0000090000000000  SET [9] <- 0",
+            "     25  00000C0000000000  SET [12] <- 0",
+            "     26  1000030000800000  COPY [3] <- [8]",
+            "     27  1000030000900000  COPY [3] <- [9]",
+            "     28  1000040000800000  COPY [4] <- [8]",
+            "     29  40000B0000000006  EQUAL [11] <- [0] = [6]",
+            "     30  6000040000B00009  MOVEIF [4] <- [9] if [11]",
+            "     31  1000050000800000  COPY [5] <- [8]",
+            "     32  40000B0000100006  EQUAL [11] <- [1] = [6]",
+            "     33  6000050000B00002  MOVEIF [5] <- [2] if [11]",
+            "     34  20000A0000400005  ADD [10] <- [4] + [5]",
+            "     35  30000B0000A00003  LESS [11] <- [10] < [3]",
+            "     36  6000030000B0000A  MOVEIF [3] <- [10] if [11]",
+            "     37  1000040000300000  COPY [4] <- [3]",
+            "     38  1000050000300000  COPY [5] <- [3]",
+            "     39  20000A0000400005  ADD [10] <- [4] + [5]",
+            "     40  30000B0000A00003  LESS [11] <- [10] < [3]",
+            "     41  6000030000B0000A  MOVEIF [3] <- [10] if [11]",
+            "     42  30000B0000300009  LESS [11] <- [3] < [9]",
+            "     43  20000C0000C0000B  ADD [12] <- [12] + [11]",
+            "     44  50000C0000C0000C  BOTH [12] <- [12] and [12]",
+            "     45  30000B0000700003  LESS [11] <- [7] < [3]",
+            "     46  6000030000B00007  MOVEIF [3] <- [7] if [11]",
+            "     47  7000000000C00000  OPEN [12]",
+            "     48  0000000000000000  published 0",
+            "rounds 30",
+        ]
+        self.assertEqual(self.listing(plan_of_method_4(1, 1) + [0]), expected)
+
     def test_log_of_method_5(self):
         expected = [
             "      0  5000020000000001  header method=5 yards=2 lanes=0 source=1",
@@ -692,6 +794,10 @@ class Listing(WithFolder):
             (plan_of_method_3(1, 0, 0), 11, 9),  # by the formulas of method 3, as the next two
             (plan_of_method_3(2, 1, 0), 54, 45),
             (plan_of_method_3(3, 3, 2), 209, 121),
+            (plan_of_method_4(1, 0), 39, 16),  # by the formulas of method 4, as the next three
+            (plan_of_method_4(2, 1), 103, 37),
+            (plan_of_method_4(3, 3), 300, 58),
+            (plan_of_method_4(4, 0), 315, 37),
             (plan_of_method_5(1, 0, 0), 9, 2),  # by the formulas of method 5, as the next four
             (plan_of_method_5(2, 1, 0), 62, 31),
             (plan_of_method_5(3, 3, 2), 298, 100),
@@ -706,6 +812,7 @@ class Listing(WithFolder):
         for plan, figures in (
             (plan_of_method_2(32, 0), (44_227, 9_633)),
             (plan_of_method_3(32, 128, 0), (437_221, 38_151)),
+            (plan_of_method_4(32, 128), (521_371, 1_136)),
         ):
             self.assertEqual((len(plan), log.rounds_of(plan, is_plan=True)), figures)
 
@@ -756,6 +863,15 @@ class Comparison(WithFolder):
         plan = plan_of_method_3(1, 1, 0)
         expected = [
             "differ at place 23, in a published word",
+            "A  0000000000000001  published 1",
+            "B  0000000000000000  published 0",
+        ]
+        self.assertEqual(self.comparison(plan + [1], plan + [0]), (1, expected))
+
+    def test_method_4_differs_in_the_published_word(self):
+        plan = plan_of_method_4(1, 1)
+        expected = [
+            "differ at place 48, in a published word",
             "A  0000000000000001  published 1",
             "B  0000000000000000  published 0",
         ]
@@ -820,8 +936,9 @@ class LogMessages(WithFolder):
         self.assertEqual(run(log, "compare", path, other, "--bytes"), (0, "equal, 2 words\n", ""))
 
     def test_no_request_looks_like_text(self):
-        for method, n, m in product((1, 2, 3, 5), range(1, 33), range(129)):
-            self.assertFalse(log.looks_like_text(as_bytes([word(method, n, m, n - 1)])))
+        for method, n, m in product(range(1, 6), range(1, 33), range(129)):
+            source = 0 if method == 4 else n - 1
+            self.assertFalse(log.looks_like_text(as_bytes([word(method, n, m, source)])))
 
     def test_one_form_at_most(self):
         command = [sys.executable, TOOLS / "log.py", "list", "--hex", "--bytes", "log"]

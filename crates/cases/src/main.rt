@@ -16,7 +16,7 @@ fn send_with(argument: &[u8], name: &[u8], words: &[u64], size: usize)
     }
     io::write_all(STDOUT_FILENO, name);
     io::write_all(STDOUT_FILENO, b"\n");
-    let mut text = [0u8; 2894];
+    let mut text = [0u8; 67374];
     let length = console::desk_text(argument, &bytes[..size], &mut text);
     io::write_all(STDOUT_FILENO, &text[..length]);
 }
@@ -32,7 +32,7 @@ fn refused_headers() {
     send(b"no bytes", &[0x1000010000000000], 0);
     send(b"a broken header", &[0x1000010000000000], 7);
     send(b"method 0", &[0x0000010000000000], 8);
-    send(b"method 4", &[0x4000010000000000], 8);
+    send(b"method 15", &[0xF000010000000000], 8);
     send(b"no yards", &[0x1000000000000000], 8);
     send(b"33 yards", &[0x1000210000000000], 8);
     send(b"129 lanes", &[0x1000010008100000], 8);
@@ -40,6 +40,8 @@ fn refused_headers() {
     send(b"source 2 of 2 yards", &[0x1000020000000002], 8);
     send(b"129 lanes in method 3", &[0x3000010008100000], 8);
     send(b"source 2 of 2 yards in method 3", &[0x3000020000000002], 8);
+    send(b"129 lanes in method 4", &[0x4000010008100000], 8);
+    send(b"source 1 of 2 yards in method 4", &[0x4000020000000001], 8);
     send(b"method 6", &[0x6000010000000000, 0], 16);
     send(b"129 lanes in method 5", &[0x5000010008100000], 8);
     send(b"source 2 of 2 yards in method 5", &[0x5000020000000002], 8);
@@ -286,6 +288,42 @@ fn refused_destinations() {
     );
 }
 
+fn refused_in_method_4() {
+    send(b"a lane missing in method 4", &[0x4000020000100000], 8);
+    let mut lanes = [0u64; 23];
+    lanes[0] = 0x4000200001600000;
+    send(
+        b"32 yards and 22 lanes in method 4, too few cells before too long a log",
+        &lanes,
+        184,
+    );
+    send(
+        b"14 yards in method 4, too long a log",
+        &[0x40000E0000000000],
+        8,
+    );
+    send(
+        b"from a yard not there in method 4",
+        &[0x4000020000100000, 0x0201000000000005],
+        16,
+    );
+    send(
+        b"to a yard not there in method 4",
+        &[0x4000020000100000, 0x0002000000000005],
+        16,
+    );
+    send(
+        b"a spare bit in method 4",
+        &[0x4000020000100000, 0x0001000100000005],
+        16,
+    );
+    send(
+        b"a price of 100,000,001 in method 4",
+        &[0x4000020000100000, 0x0001000005F5E101],
+        16,
+    );
+}
+
 fn runs_of_method_1() {
     send(
         b"the printed request",
@@ -476,6 +514,35 @@ fn runs_of_method_3() {
     send(b"2 yards and 128 lanes in method 3", &lanes, 1032);
 }
 
+fn runs_of_method_4() {
+    send(
+        b"the printed request in method 4",
+        &[0x4000020000100000, 0x00010000FFFFFFFB],
+        16,
+    );
+    send(b"one yard, no lane, method 4", &[0x4000010000000000], 8);
+    send(
+        b"over a yard between, method 4",
+        &[
+            0x4000030000300000,
+            0x0001000000000005,
+            0x01020000FFFFFFFE,
+            0x0002000000000004,
+        ],
+        32,
+    );
+    send(
+        b"a loss circle that yard 0 does not reach, method 4",
+        &[0x4000030000200000, 0x01020000FFFFFFFF, 0x02010000FFFFFFFF],
+        24,
+    );
+    send(
+        b"13 yards and a lane in method 4",
+        &[0x40000D0000100000, 0x0C000000FFFFFFFB],
+        16,
+    );
+}
+
 fn runs_of_method_5() {
     send(b"1 yard, no lanes, method 5", &[0x5000010000000000, 0], 16);
     send(
@@ -616,6 +683,12 @@ fn listings() {
     );
     send_with(
         b"all",
+        b"the printed request in method 4, all",
+        &[0x4000020000100000, 0x00010000FFFFFFFB],
+        16,
+    );
+    send_with(
+        b"all",
         b"an unreached destination, all",
         &[0x5000030000100000, 0x00010000FFFFFFFB, 2],
         24,
@@ -636,9 +709,11 @@ fn main() {
     refused_entries();
     refused_order();
     refused_destinations();
+    refused_in_method_4();
     runs_of_method_1();
     runs_of_method_2();
     runs_of_method_3();
+    runs_of_method_4();
     runs_of_method_5();
     listings();
 }

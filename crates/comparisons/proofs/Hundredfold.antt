@@ -77,6 +77,7 @@ networks =
     (λ n m source a. edges-reweighed m)
     (λ n source a. table-reweighed n)
     (λ n m source a. edges-reweighed m)
+    (λ n m a. edges-reweighed m)
     (λ n m source a. edges-reweighed m)
 
 pub namings : (h : Header) → Accepted h → (ws ws′ : List ℕ) → Words h ws ws′ → Renamed (scaled 100) (namingOf h ws) (namingOf h ws′)
@@ -86,4 +87,5 @@ namings =
     (λ n m source a. edges-renamed m)
     (λ n source a ws ws′ each. from-renamed (scaled 100))
     (λ n m source a. edges-renamed m)
+    (λ n m a ws ws′ each k e e′ w named. named)
     (λ n m source a. edges-renamed m)

@@ -23,7 +23,7 @@ pub record EntryHundredfold (word word′ : ℕ) : Type 0 where
 abbrev pub WordHundredfold : (method word word′ : ℕ) → Type 0
 WordHundredfold method word word′ =
     let edge = EdgeHundredfold word word′ in
-    byMethod method ⊥ (edge ∷ EntryHundredfold word word′ ∷ edge ∷ edge ∷ [])
+    byMethod method ⊥ (edge ∷ EntryHundredfold word word′ ∷ edge ∷ edge ∷ edge ∷ [])
 
 -- Method, vertices, edges and source are the same, and so is each word that has a place, at the hundredfold. Method 5's destination may be another.
 pub record Hundredfold (request request′ : List ℕ) : Type 0 where

@@ -95,13 +95,13 @@ fn run_bytes(
 
 // What the desk's program prints for its first argument, empty where there is none, and the bytes that it read, from the start of `text`; the
 // text's length is returned.
-pub fn desk_text(argument: &[u8], bytes: &[u8], text: &mut [u8; 2894]) -> usize
+pub fn desk_text(argument: &[u8], bytes: &[u8], text: &mut [u8; 67374]) -> usize
     ensures { λ n. ⌜ Printed (deskText (now (argument .entry)) (now (bytes .entry))) (now (text .entry)) (now (text .exit)) n ⌝ }
 {
     let all = text::same(argument, b"all");
     let mut cells = [0i64; 1190];
     let mut log = [0u64; 8192];
-    let mut distances = [0i64; 32];
+    let mut distances = [0i64; 1024];
     let mut parents = [0i64; 32];
     let mut route = [0i64; 31];
     let served = run_bytes(
@@ -123,7 +123,7 @@ pub fn host_text(bytes: &[u8], text: &mut [u8; 139264]) -> usize
 {
     let mut cells = [0i64; 1190];
     let mut log = [0u64; 8192];
-    let mut distances = [0i64; 32];
+    let mut distances = [0i64; 1024];
     let mut parents = [0i64; 32];
     let mut route = [0i64; 31];
     let served = run_bytes(

@@ -1,15 +1,15 @@
 -- What a header's plan leaves of cells that intake has laid, whichever the method: the verdict, least totals and their parents.
 -- Rests on the methods and on Sources.
-use mathlib.Core.Path.{_≡_, refl, ap}
+use mathlib.Core.Path.{_≡_, refl, sym, ap}
 use mathlib.Core.Logic.{_↔_, Iff·trans, Iff·not, _≢_}
 use mathlib.Core.Bool.{cond}
 use mathlib.Core.List.{List, [], _∷_}
 use mathlib.Core.Option.{some}
-use Prim.Native.Nat.{ℕ, zero, suc, _+_, _*_, _<_, _≤_}
+use Prim.Native.Nat.{ℕ, zero, suc, _+_, _-_, _*_, _^_, _<_, _≤_}
 use native.Mathlib.Omega.{arith}
 use lib.IntN.{ℤ, pos, negsuc, natAbs, _+ℤ_}
 use lib.ListN.{length, getD, drop}
-use lib.Signed.{_<ℤ_}
+use lib.Signed.{_≤ℤ_, _<ℤ_}
 use Rattle.fields.specs.Fields.{bitsOf}
 use Rattle.machine.specs.Effect.{isZero, cellAt}
 use Rattle.machine.specs.Log.{cellsAfter}
@@ -25,8 +25,10 @@ use Rattle.graph.specs.Shortest.{Naming, Distances, Parents, Shortest}
 use Rattle.graph.specs.BellmanFord.{network, numbered}
 use Rattle.graph.specs.Jacobi.{Sorted}
 use Rattle.graph.specs.Dijkstra.{tableNetwork, fromVertex}
-use Rattle.graph.proofs.Int.{arithℤ}
-use Rattle.graph.proofs.Parents.{parents-carried}
+use Rattle.graph.specs.Floyd.{doubled}
+use Rattle.graph.proofs.Int.{arithℤ, sum}
+use Rattle.graph.proofs.Floyd.{doubled-most}
+use Rattle.graph.proofs.Parents.{distances-carried, parents-carried}
 use Rattle.graph.proofs.Dijkstra.{no-negative-cycle}
 use Rattle.graph.proofs.Synchronous.{synchronous-carried}
 use Rattle.graph.proofs.Route.{route-carried}
@@ -36,27 +38,31 @@ use Rattle.methods.specs.Edges as Edges
 use Rattle.methods.specs.Method1 as Method1
 use Rattle.methods.specs.Method2 as Method2
 use Rattle.methods.specs.Method3 as Method3
+use Rattle.methods.specs.Method4 as Method4
 use Rattle.methods.specs.Method5 as Method5
 use Rattle.methods.proofs.Rooms.{wide}
+use Rattle.methods.proofs.Sums.{summed-map}
 use Rattle.methods.proofs.OverEdges.{ends-below}
-use Rattle.methods.proofs.Headers.{header1, header2, header3, header5}
+use Rattle.methods.proofs.Headers.{header1, header2, header3, header4, header5}
 use Rattle.demands.specs.Run.{openedAt, verdictOf}
-use Rattle.demands.specs.Network.{edgeOf, Entered, networkOf, namingOf, sourcesOf, CycleFrom}
+use Rattle.demands.specs.Network.{edgeOf, Entered, networkOf, namingOf, everyVertex, sourcesOf, CycleFrom}
 use Rattle.demands.specs.Besides.{besidesOf}
-use Rattle.demands.specs.Totals.{totalBelow}
-use Rattle.demands.proofs.Sources.{only-source, only-row}
+use Rattle.demands.specs.Sums.{sumBound}
+use Rattle.demands.proofs.Sources.{only-source, only-row, any-source, vertex-at, vertices-long}
 use Rattle.demands.proofs.Table.{tableOf}
+
+-- The edges, laid where a method has them.
+abbrev pub Laid : (h : Header) (ws : List ℕ) (start : List ℤ) → Edges.Inputs → Type 0
+Laid h ws start at = Edges.Laid at mostWeight (edgeOf ws) (h .vertices) (h .edges) (h .source) start
 
 -- What intake supplies to the header's method.
 pub record Given (h : Header) (ws : List ℕ) (start : List ℤ) : Type 0 where
-  pub one : h .method ≡ 1
-      → Edges.Laid (Method1.places (h .vertices) (h .edges)) mostWeight (edgeOf ws) (h .vertices) (h .edges) (h .source) start
+  pub one : h .method ≡ 1 → Laid h ws start (Method1.places (h .vertices) (h .edges) .inputs)
   pub two : h .method ≡ 2 → Method2.Laid (natAbs far) mostWeight (tableOf (h .vertices) ws) (h .vertices) (h .source) start
-  pub three : h .method ≡ 3
-      → Edges.Laid (Method3.places (h .vertices) (h .edges)) mostWeight (edgeOf ws) (h .vertices) (h .edges) (h .source) start
+  pub three : h .method ≡ 3 → Laid h ws start (Method3.places (h .vertices) (h .edges) .inputs)
   pub sorted : h .method ≡ 3 → Sorted (edgeOf ws) (h .edges)
-  pub five : h .method ≡ 5
-      → Edges.Laid (Method5.places (h .vertices) (h .edges)) mostWeight (edgeOf ws) (h .vertices) (h .edges) (h .source) start
+  pub four : h .method ≡ 4 → Laid h ws start (Method4.inputs (h .vertices) (h .edges))
+  pub five : h .method ≡ 5 → Laid h ws start (Method5.places (h .vertices) (h .edges) .inputs)
   pub aimed : h .method ≡ 5 → cellAt start (Method5.goal (h .vertices) (h .edges)) ≡ pos (destinationIn h ws)
   pub there : h .method ≡ 5 → destinationIn h ws < h .vertices
   pub same : h .method ≡ 2 → (e : Edge) → tableNetwork (natAbs far) (h .vertices) (tableOf (h .vertices) ws) e ↔ Entered (h .vertices) ws e
@@ -77,7 +83,7 @@ pub record Left (h : Header) (ws : List ℕ) (start left : List ℤ) : Type 0 wh
   pub besides : verdictOf h left ≡ 0 → besidesOf h ws (λ k i. cellAt left (resultsOf h k .first + i))
   pub rest : (k : ℕ) → cellsOf h ≤ k → cellAt left k ≡ cellAt start k
   pub exact : Exact (instructionsOf h) start
-  pub below-far : Summed (totalBelow h) (instructionsOf h) start
+  pub bounded : Summed (sumBound h) (instructionsOf h) start
   -- The opened word is the verdict.
   pub opened : openedAt (verdictCell h) left ≡ published (verdictCell h) (verdictOf h left)
 
@@ -144,25 +150,26 @@ besides-carried =
     (λ n m source a ws given given′ same f. tt)
     (λ n source a ws given given′ same f. tt)
     (λ n m source a ws given given′ same f. synchronous-carried (edgeOf ws) m far n source _ _ _ _ (same distances) (same parents) f)
+    (λ n m a ws given given′ same f. tt)
     (λ n m source a ws given given′ same f.
     route-carried (edgeOf ws) m n source far _ _ _ _ (getD ws m 0) _ _ (same distances) (same parents) (same route) f)
 
--- ---- a method over edges
+-- ---- a method over edges with one source
 
 -- A header's rows are those of a method over edges that has its cells at these places.
-record OverEdges (h : Header) (ws : List ℕ) (at : Edges.Places) : Type 1 where
+record OverEdgesAt (h : Header) (ws : List ℕ) (at : Edges.Places) : Type 1 where
   net : networkOf h ws ≡ network (edgeOf ws) (h .edges)
   names : namingOf h ws ≡ numbered (edgeOf ws) (h .edges)
   sources : sourcesOf h ≡ h .source ∷ []
   verdict : verdictCell h ≡ some (at .verdict)
-  count : cellsOf h ≡ at .count
-  totals : totalBelow h ≡ (λ x w. x ≢ far → (x +ℤ w) <ℤ far)
+  count : cellsOf h ≡ at .inputs .count
+  sums : sumBound h ≡ (λ x w. x ≢ far → (x +ℤ w) <ℤ far)
   rows : (resultsOf h distances .count ≡ h .vertices) × (resultsOf h parents .count ≡ h .vertices)
   dist : (v : ℕ) → resultsOf h distances .first + v ≡ at .dist v
   parent : (v : ℕ) → resultsOf h parents .first + v ≡ at .parent v
 
-module _ (h : Header) (ws : List ℕ) (at : Edges.Places) (is : OverEdges h ws at) {start left : List ℤ}
-    (laid : Edges.Laid at mostWeight (edgeOf ws) (h .vertices) (h .edges) (h .source) start)
+module _ (h : Header) (ws : List ℕ) (at : Edges.Places) (is : OverEdgesAt h ws at) {start left : List ℤ}
+    (laid : Laid h ws start (at .inputs))
     (o : Edges.Solved at (natAbs far) (instructionsOf h) (edgeOf ws) (h .vertices) (h .edges) (h .source) start left) where
   abbrev net : Network
   net = network (edgeOf ws) (h .edges)
@@ -199,15 +206,70 @@ module _ (h : Header) (ws : List ℕ) (at : Edges.Places) (is : OverEdges h ws a
         besides = rw (is .verdict) (λ z. besides (none z));
         rest = rw (is .count) (o .rest);
         exact = o .exact;
-        below-far = rw (is .totals) (o .below-far);
+        bounded = rw (is .sums) (o .below-far);
         opened = rw (is .verdict) (ap (λ w. w ∷ []) (found .word));
+      }
+
+-- ---- method 4
+
+-- The bounds of its sums, in figures.
+lowest : doubled mostWeight 33 ≡ 2 ^ 33 * 100000000
+unfolding doubled
+lowest = refl
+
+highest : Method4.high (natAbs far) + Method4.high (natAbs far) ≡ 2 ^ 60 - 2 ^ 21
+unfolding doubled
+highest = refl
+
+module _ (n m : ℕ) (ws : List ℕ) {start left : List ℤ} (few : n ≤ 32)
+    (laid : Laid (header 4 n m 0) ws start (Method4.inputs n m))
+    (o : Method4.Solved (natAbs far) mostWeight (edgeOf ws) n m start left) where
+  abbrev all : Network
+  all = network (edgeOf ws) m
+
+  anywhere : Flag (cellAt left (Method4.verdict n m)) (CycleFrom all (everyVertex n))
+  anywhere = flag _ (Iff·trans (o .cycle) (any-source all n)) (Iff·trans (o .none) (Iff·not (any-source all n)))
+
+  rows : truth (cellAt left (Method4.verdict n m)) ≡ 0 → (r : ℕ) → r < length (everyVertex n)
+      → Distances all far n (getD (everyVertex n) r 0) (λ v. cellAt left (3 * m + 0 + (r * n + v)))
+  rows e r l =
+      let inside : r < n = omega (arith, vertices-long n) in
+      rw (vertex-at n r inside)
+      (distances-carried all far n r _ _ (λ v q. let p : 3 * m + 0 + (r * n + v) ≡ Method4.entry n m (r * n + v) = omega arith in ap (cellAt left) p)
+      (o .distances (Iff·not (any-source all n) .1 (anywhere .unset .0 e)) r inside))
+
+  -- n stages are 32 at most.
+  wider : (x w : ℤ)
+      → (pos 0 ≤ℤ ((x +ℤ w) +ℤ pos (doubled mostWeight (suc n)))) × ((x +ℤ w) ≤ℤ pos (Method4.high (natAbs far) + Method4.high (natAbs far)))
+      → (negsuc (2 ^ 33 * 100000000 - 1) ≤ℤ (x +ℤ w)) × ((x +ℤ w) ≤ℤ pos (2 ^ 60 - 2 ^ 21))
+  wider x w (low, up) = (
+    omega (arithℤ, doubled-most mostWeight (suc n) 33 (omega arith), lowest, sum (x +ℤ w) (pos (doubled mostWeight (suc n)))),
+    omega (arithℤ, highest),
+  )
+
+  every-vertex : Left (header 4 n m 0) ws start left
+  unfolding verdictCell verdictOf networkOf namingOf sourcesOf besidesOf sumBound resultsOf cellsOf instructionsOf
+  every-vertex =
+      record {
+        cycle = anywhere .set;
+        no-cycle = anywhere .unset;
+        below = ends-below (edgeOf ws) n m (laid .limited);
+        rows = ap (λ k. k * n) (sym (vertices-long n));
+        parents-row = λ given. absurd (given refl);
+        least-totals = rows;
+        parent-marks = λ e given. absurd (given refl);
+        besides = λ e. tt;
+        rest = o .rest;
+        exact = o .exact;
+        bounded = summed-map _ _ wider _ start (o .bounded);
+        opened = ap (λ w. w ∷ []) (anywhere .word);
       }
 
 -- ---- each method
 
 pub left : (h : Header) → Accepted h → (ws : List ℕ) (start : List ℤ) → Given h ws start
     → Left h ws start (cellsAfter (drop 1 (planOf h)) start)
-unfolding verdictCell verdictOf networkOf namingOf sourcesOf besidesOf totalBelow resultsOf cellsOf instructionsOf
+unfolding verdictCell verdictOf networkOf namingOf sourcesOf besidesOf sumBound resultsOf cellsOf instructionsOf
 left =
     by-method
     (λ h. (ws : List ℕ) (start : List ℤ) → Given h ws start → Left h ws start (cellsAfter (drop 1 (planOf h)) start))
@@ -241,7 +303,7 @@ left =
       besides = λ e. tt;
       rest = o .rest;
       exact = o .exact;
-      below-far = o .below-far;
+      bounded = o .below-far;
       opened = refl;
     })
     (λ n m source a ws start g.
@@ -256,6 +318,8 @@ left =
     synchronous-carried (edgeOf ws) m far n source _ _ _ _
     (λ v l. let p : resultsOf h distances .first + v ≡ at .dist v = omega arith in ap (cellAt end) p)
     (λ v l. let p : resultsOf h parents .first + v ≡ at .parent v = omega arith in ap (cellAt end) p) passes))
+    (λ n m a ws start g.
+    every-vertex n m ws (a .vertices-few) (g .four refl) (header4 (header 4 n m 0) a start mostWeight wide (edgeOf ws) refl (g .four refl)))
     (λ n m source a ws start g.
     let h = header 5 n m source in
     let at = Method5.places n m in

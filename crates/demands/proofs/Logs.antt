@@ -24,11 +24,13 @@ use Rattle.plans.specs.Outline as Outline
 use Rattle.plans.specs.Method1 as Method1
 use Rattle.plans.specs.Method2 as Method2
 use Rattle.plans.specs.Method3 as Method3
+use Rattle.plans.specs.Method4 as Method4
 use Rattle.plans.specs.Method5 as Method5
 use Rattle.plans.specs.Plan.{headerWord, Accepted, instructionsOf, planOf, verdictCell, published}
 use Rattle.plans.proofs.Blocks.{sum-append, sum-map}
 use Rattle.plans.proofs.Weights.{outlineWeight, outline-weight}
 use Rattle.plans.proofs.Outlines.{Ends, here, past-line, past-run, past-each, past-again, before-last}
+use Rattle.plans.proofs.Bounds.{square-le}
 use Rattle.plans.proofs.Headers.{header, by-method}
 use Rattle.plans.proofs.Addresses.{fits-plan}
 use Rattle.plans.proofs.Figures.{length-plan}
@@ -130,7 +132,7 @@ module _ (name : (region place : ℕ) → ℕ) (n m source : ℕ) (o : Outline) 
 
 pub log-plan : (h : Header) → Accepted h → (cells : List ℤ)
     → logOf (planOf h) cells ≡ planOf h ++ openedAt (verdictCell h) (cellsAfter (drop 1 (planOf h)) cells)
-unfolding planOf logOf instructionsOf verdictCell Method1.plan Method2.plan Method3.plan Method5.plan sumOf
+unfolding planOf logOf instructionsOf verdictCell Method1.plan Method2.plan Method3.plan Method4.plan Method5.plan sumOf
 log-plan =
     by-method
     (λ h. (cells : List ℤ) → logOf (planOf h) cells ≡ planOf h ++ openedAt (verdictCell h) (cellsAfter (drop 1 (planOf h)) cells))
@@ -147,6 +149,11 @@ log-plan =
     (log-opens (address (Method3.starts n m)) n m source Method3.outline cells (Method3.X (fixed 8))
     (past-run (past-line (past-line (past-line (past-each (past-again (past-each (past-run here))))))))
     (omega arith) (fits-plan (header 3 n m source) a) (omega arith)))
+    (λ n m a cells.
+    ap (λ (l : List ℕ). headerWord (header 4 n m 0) ∷ l)
+    (log-opens (address (Method4.starts n m)) n m 0 Method4.outline cells (Method4.X (fixed 5))
+    (past-run (past-line (past-line (past-again (past-line (past-line (past-each (past-run (past-each (past-each (past-run (past-line (past-each here)))))))))))))
+    (omega arith) (fits-plan (header 4 n m 0) a) (omega (arith, square-le n (a .vertices-few)))))
     (λ n m source a cells.
     ap (λ (l : List ℕ). headerWord (header 5 n m source) ∷ l)
     (log-opens (address (Method5.starts n m)) n m source Method5.outline cells (Method5.X (fixed 7))

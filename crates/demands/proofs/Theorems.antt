@@ -1,7 +1,7 @@
 -- The theorems: the demands of specs/Demands, for every request, foreign plan and lent buffer.
 -- Rests on everything below.
 use mathlib.Core.Path.{_≡_, refl, sym, _∙_}
-use mathlib.Core.Logic.{_⊎_, inl, inr, Iff·trans, Iff·symm, Iff·not}
+use mathlib.Core.Logic.{_⊎_, inl, inr, Iff·trans, Iff·symm, Iff·not, _≢_}
 use mathlib.Core.List.{List, [], _∷_}
 use mathlib.Core.Option.{none}
 use Prim.Native.Nat.{ℕ, _+_, _*_}
@@ -11,7 +11,8 @@ use lib.IntN.{ℤ}
 use lib.ListN.{length, getD}
 use Rattle.answers.specs.Refusal.{plain, placed}
 use Rattle.plans.specs.Limits.{far}
-use Rattle.plans.specs.Plan.{Kind, distances, parents, route}
+use Rattle.plans.specs.Plan.{Kind, distances, parents, route, resultsOf}
+use Rattle.plans.proofs.Headers.{source-below}
 use Rattle.runner.proofs.PlanWithin.{within-plan}
 use Rattle.runner.proofs.Refused.{nine-exactly, seven-exactly, settled-plan}
 use Rattle.runner.proofs.Foreign.{refused-plan, told-plan, length-told, log-beyond, cells-long, cells-spared, replayed-plan, charge-plan, words-plan}
@@ -25,10 +26,10 @@ use Rattle.graph.proofs.Parents.{distances-carried, parents-carried}
 use Rattle.demands.specs.Run.{Lent, outcome}
 use Rattle.demands.specs.Network.{edgeOf, networkOf, namingOf, sourcesOf}
 use Rattle.demands.specs.Besides.{besidesOf}
-use Rattle.demands.specs.Demands.{RanOn, verdictTold, resultOf, Demand1, Demand2, OneSource, Demand3a, Demand3, DemandPlan}
+use Rattle.demands.specs.Demands.{RanOn, verdictTold, resultOf, Demand1, Demand2, OneSource, EverySource, Demand3a, Demand3, DemandPlan}
 use Rattle.demands.proofs.Intake.{laid-cells, lent-cells}
 use Rattle.demands.proofs.Ran.{allowed, leaves, by-verdict, cells-are, verdict-is, log-published, length-figure, length-whole}
-use Rattle.demands.proofs.Sources.{only-source, first-row, single}
+use Rattle.demands.proofs.Sources.{only-source, first-row, single, every, vertex-at, vertices-long, any-source}
 use Rattle.demands.proofs.Left.{besides-carried}
 use Rattle.demands.proofs.Copies.{result-copied}
 use Rattle.demands.proofs.Beyond.{beyond}
@@ -79,28 +80,42 @@ demand2 request lent =
           let (ds, ps) = left .parents-row some in
           parents-carried (networkOf h ws) far (h .vertices) (h .source) _ _
           (λ v l. result-copied request lent ran t distances v (omega arith)) (namingOf h ws) _ _ (left .below)
-          (allowed request lent ran .source-there) (λ v l. result-copied request lent ran t parents v (omega arith))
+          (source-below h (allowed request lent ran)) (λ v l. result-copied request lent ran t parents v (omega arith))
           (left .parent-marks (sym (verdict-is request lent ran) ∙ t) some);
       besides = λ ran t.
           besides-carried h (allowed request lent ran) ws _ _ (result-copied request lent ran t)
           (leaves request lent ran .besides (sym (verdict-is request lent ran) ∙ t));
     }
 
--- In fewer words, where there is one source: every method.
-pub one-source : (request : List ℕ) (lent : Lent) → RanOn request lent → OneSource request lent
-one-source request lent ran =
+-- In fewer words, where parents are given.
+pub one-source : (request : List ℕ) (lent : Lent) → RanOn request lent → resultsOf (headerIn request) parents .count ≢ 0
+    → OneSource request lent
+one-source request lent ran given =
     let h = headerIn request in
     let net = networkOf h (wordsIn request) in
     let d = demand2 request lent in
-    let (sources, marked) = single h (allowed request lent ran) in
+    let sources = single h (allowed request lent ran) given in
     record {
       cycle = Iff·trans (rw sources at (d .cycle ran)) (Iff·symm (only-source net (h .source)));
       no-cycle = Iff·trans (rw sources at (d .no-cycle ran)) (Iff·symm (Iff·not (only-source net (h .source))));
       shortest = λ t.
           record {
             distances = first-row net far (h .source) (h .vertices) (resultOf request lent distances) (rw sources at (d .least-totals ran t));
-            parents = d .parent-marks ran t marked;
+            parents = d .parent-marks ran t given;
           };
+    }
+
+-- .. and of method 4, without the tables.
+pub every-source : (request : List ℕ) (lent : Lent) → RanOn request lent → headerIn request .method ≡ 4 → EverySource request lent
+every-source request lent ran four =
+    let sources = every (headerIn request) four in
+    let n = headerIn request .vertices in
+    let net = networkOf (headerIn request) (wordsIn request) in
+    let d = demand2 request lent in
+    record {
+      cycle = Iff·trans (rw sources at (d .cycle ran)) (Iff·symm (any-source net n));
+      no-cycle = Iff·trans (rw sources at (d .no-cycle ran)) (Iff·symm (Iff·not (any-source net n)));
+      distances = λ t i l. rw (vertex-at n i l) at ((rw sources at (d .least-totals ran t)) i (omega (arith, vertices-long n)));
     }
 
 -- Method 3's own rule, without the table: its distances and parents are those of synchronous passes; no others are (graph's `one-result`).
@@ -137,7 +152,7 @@ demand3 request lent =
       lent-cells = λ ran. lent-cells request lent;
       copied-results = λ ran t k i l. rw (cells-are request lent ran) (result-copied request lent ran t k i l);
       exact = λ ran. leaves request lent ran .exact;
-      below-far = λ ran. leaves request lent ran .below-far;
+      bounded = λ ran. leaves request lent ran .bounded;
     }
 
 -- Foreign plans: demands 1 and 3 of the runner.

@@ -17,5 +17,6 @@ besidesOf h ws results =
     (Unit {0}
     ∷ Unit {0}
     ∷ Synchronous (edgeOf ws) (h .edges) far (h .vertices) (h .source) (results distances) (results parents)
+    ∷ Unit {0}
     ∷ RouteTo (edgeOf ws) (h .edges) far (h .vertices) (h .source) (results distances) (results parents) (destinationIn h ws) (results route)
     ∷ [])

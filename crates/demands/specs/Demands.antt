@@ -23,11 +23,12 @@ use Rattle.limits.specs.WithinLimits.{headerIn, wordsIn, FirstBroken, publicLim
 use Rattle.intake.specs.Intake.{sourceOf, laid}
 use Rattle.graph.specs.Walk.{NegativeCycle}
 use Rattle.graph.specs.Shortest.{Distances, Parents, Shortest}
+use Rattle.graph.specs.Floyd.{Anywhere}
 use Rattle.methods.specs.Bank.{Summed, Exact}
 use Rattle.demands.specs.Run.{Lent, lengthsOf, refusalOf, startOf, refusedBy, outcome}
 use Rattle.demands.specs.Network.{networkOf, namingOf, sourcesOf, CycleFrom}
 use Rattle.demands.specs.Besides.{besidesOf}
-use Rattle.demands.specs.Totals.{totalBelow}
+use Rattle.demands.specs.Sums.{sumBound}
 
 -- A request ran when it met no refusal, or 12 alone; 12 is told after the run.
 abbrev pub RanOn : (request : List ℕ) → Lent → Type 0
@@ -96,7 +97,7 @@ pub record Demand1 (request : List ℕ) (lent : Lent) : Type 0 where
 abbrev pub resultOf : (request : List ℕ) → Lent → Kind → (i : ℕ) → ℤ
 resultOf request lent k i = getD (outcome request lent .results k) i (pos 0)
 
--- Every method so far has one source, the header's; a method may have more, with a row of distances for each, and may give no parents.
+-- Method 4 has every vertex as a source, with a row of distances for each, and gives no parents; the others have one source, the header's.
 pub record Demand2 (request : List ℕ) (lent : Lent) : Type 0 where
   pub cycle : RanOn request lent
       → (verdictTold request lent ≡ 1)
@@ -121,7 +122,7 @@ pub record Demand2 (request : List ℕ) (lent : Lent) : Type 0 where
   pub besides : RanOn request lent → verdictTold request lent ≡ 0
       → besidesOf (headerIn request) (wordsIn request) (resultOf request lent)
 
--- Of a method with one source that gives parents, in fewer words: all of them are such.
+-- Of a method that gives parents, which has one source, in fewer words: all but method 4.
 pub record OneSource (request : List ℕ) (lent : Lent) : Type 0 where
   pub cycle : (verdictTold request lent ≡ 1) ↔ NegativeCycle (networkOf (headerIn request) (wordsIn request)) (headerIn request .source)
   pub no-cycle : (verdictTold request lent ≡ 0)
@@ -129,6 +130,15 @@ pub record OneSource (request : List ℕ) (lent : Lent) : Type 0 where
   pub shortest : verdictTold request lent ≡ 0
       → Shortest (networkOf (headerIn request) (wordsIn request)) (namingOf (headerIn request) (wordsIn request)) far
       (headerIn request .vertices) (headerIn request .source) (resultOf request lent distances) (resultOf request lent parents)
+
+-- Of method 4, in fewer words: one verdict for the whole table, and each of its rows with that row's vertex as source.
+pub record EverySource (request : List ℕ) (lent : Lent) : Type 0 where
+  pub cycle : (verdictTold request lent ≡ 1) ↔ Anywhere (networkOf (headerIn request) (wordsIn request)) (headerIn request .vertices)
+  pub no-cycle : (verdictTold request lent ≡ 0)
+      ↔ ¬ Anywhere (networkOf (headerIn request) (wordsIn request)) (headerIn request .vertices)
+  pub distances : verdictTold request lent ≡ 0 → (i : ℕ) → i < headerIn request .vertices
+      → Distances (networkOf (headerIn request) (wordsIn request)) far (headerIn request .vertices) i
+      (λ j. resultOf request lent distances (i * headerIn request .vertices + j))
 
 -- ---- demand 3: what the log tells
 
@@ -169,8 +179,9 @@ pub record Demand3 (request : List ℕ) (lent : Lent) : Type 0 where
       → resultOf request lent k i ≡ cellAt (outcome request lent .cells) (resultsOf (headerIn request) k .first + i)
   -- (e) Every ADD that is carried out gives the exact sum.
   pub exact : RanOn request lent → Exact (instructionsOf (headerIn request)) (startOf request lent)
-  -- Every total that it forms from a reached vertex is below FAR, whatever the verdict (document 02, ask 7).
-  pub below-far : RanOn request lent → Summed (totalBelow (headerIn request)) (instructionsOf (headerIn request)) (startOf request lent)
+  -- It lies where `sumBound` says, whatever the verdict: every total that is formed from a reached vertex is below FAR (document 02, ask 7), and in
+  -- method 4 no sum passes 64 bits (ask 8).
+  pub bounded : RanOn request lent → Summed (sumBound (headerIn request)) (instructionsOf (headerIn request)) (startOf request lent)
 
 -- ---- foreign plans: demands 1 and 3 of the runner
 

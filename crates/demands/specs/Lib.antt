@@ -1,5 +1,5 @@
 pub mod Run
 pub mod Network
 pub mod Besides
-pub mod Totals
+pub mod Sums
 pub mod Demands

@@ -8,13 +8,14 @@ use lib.IntN.{negsuc}
 use lib.ListN.{length, getD}
 use Rattle.plans.specs.declared.Header.{Header}
 use Rattle.plans.specs.Limits.{byMethod}
+use Rattle.plans.specs.Blocks.{flat}
 use Rattle.limits.specs.Word.{fromField, toField, weightOf}
 use Rattle.graph.specs.Walk.{Edge, Network, NegativeCycle}
 use Rattle.graph.specs.Shortest.{Naming}
 use Rattle.graph.specs.BellmanFord.{network, numbered}
 use Rattle.graph.specs.Dijkstra.{fromVertex}
 
--- Methods 1, 3 and 5: the edge of each word.
+-- Methods 1, 3, 4 and 5: the edge of each word.
 abbrev pub edgeOf : (words : List ℕ) (i : ℕ) → Edge
 edgeOf ws i = record { from = fromField (getD ws i 0); to = toField (getD ws i 0); weight = weightOf (getD ws i 0) }
 
@@ -28,17 +29,21 @@ pub record Entered (n : ℕ) (words : List ℕ) (e : Edge) : Type 0 where
 unfoldable pub networkOf : Header → (words : List ℕ) → Network
 networkOf h ws =
     let edges = network (edgeOf ws) (h .edges) in
-    byMethod (h .method) (λ e. ⊥) (edges ∷ Entered (h .vertices) ws ∷ edges ∷ edges ∷ [])
+    byMethod (h .method) (λ e. ⊥) (edges ∷ Entered (h .vertices) ws ∷ edges ∷ edges ∷ edges ∷ [])
 
--- What a parent mark names: in methods 1, 3 and 5 an edge by its number, in method 2 an edge by its from-vertex.
+-- What a parent mark names: in methods 1, 3 and 5 an edge by its number, in method 2 an edge by its from-vertex; method 4 has none.
 unfoldable pub namingOf : Header → (words : List ℕ) → Naming
 namingOf h ws =
     let by-number = numbered (edgeOf ws) (h .edges) in
-    byMethod (h .method) (λ k e. ⊥) (by-number ∷ fromVertex ∷ by-number ∷ by-number ∷ [])
+    byMethod (h .method) (λ k e. ⊥) (by-number ∷ fromVertex ∷ by-number ∷ (λ k e. ⊥) ∷ by-number ∷ [])
 
--- The sources that a method's distances are from, in order: a row of n distances for each.
+-- All n vertices, upward.
+abbrev pub everyVertex : (n : ℕ) → List ℕ
+everyVertex n = flat n (λ v. v ∷ [])
+
+-- The sources that a method's distances are from, in order: a row of n distances for each. In method 4 they are all vertices.
 unfoldable pub sourcesOf : Header → List ℕ
-sourcesOf h = let one = h .source ∷ [] in byMethod (h .method) [] (one ∷ one ∷ one ∷ one ∷ [])
+sourcesOf h = let one = h .source ∷ [] in byMethod (h .method) [] (one ∷ one ∷ one ∷ everyVertex (h .vertices) ∷ one ∷ [])
 
 -- A walk from one of them leads onto a closed walk of negative total.
 pub record CycleFrom (net : Network) (sources : List ℕ) : Type 0 where

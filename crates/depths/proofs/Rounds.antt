@@ -17,6 +17,7 @@ use Rattle.plans.specs.Regions.{address}
 use Rattle.plans.specs.Method1 as Plan1
 use Rattle.plans.specs.Method2 as Plan2
 use Rattle.plans.specs.Method3 as Plan3
+use Rattle.plans.specs.Method4 as Plan4
 use Rattle.plans.specs.Method5 as Plan5
 use Rattle.plans.specs.Plan.{Accepted, instructionsOf, planOf, roundsOfPlan}
 use Rattle.plans.proofs.Headers.{by-method}
@@ -25,11 +26,13 @@ use Rattle.methods.proofs.Names.{same, pair}
 use Rattle.methods.proofs.Method1 as Method1
 use Rattle.methods.proofs.Method2 as Method2
 use Rattle.methods.proofs.Method3 as Method3
+use Rattle.methods.proofs.Method4 as Method4
 use Rattle.methods.proofs.Method5 as Method5
 use Rattle.depths.proofs.Places.{at-places}
 use Rattle.depths.proofs.Method1.{greatest1}
 use Rattle.depths.proofs.Method2.{greatest2}
 use Rattle.depths.proofs.Method3.{greatest3}
+use Rattle.depths.proofs.Method4.{greatest4}
 use Rattle.depths.proofs.Method5.{greatest5}
 
 -- ---- each method's plan, at its places
@@ -48,6 +51,10 @@ module _ (far : ℤ) (n m source : ℕ) (some : 0 < n) where
   unfolding Plan3.plan
   depth3 = at-places same (Method3.layout n m) pair far n m source Plan3.outline (Method3.kept far n m) ∙ greatest3 far n m source some
 
+  depth4 : greatest eqb (Plan4.plan (address (Plan4.starts n m)) far n m) ≡ cond (eqb m 0) (7 * n + 9) (7 * n + 7 * m + 16)
+  unfolding Plan4.plan
+  depth4 = at-places same (Method4.layout n m) pair far n m 0 Plan4.outline (Method4.kept far n m) ∙ greatest4 far n m some
+
   depth5 : greatest eqb (Plan5.plan (address (Plan5.starts n m)) far n m source)
       ≡ cond (eqb m 0) (max 2 (n * n + 5 * n - 5)) (m * ((n - 1) * (n + 9)) + max (m * n + n + 16) (m + n * n + 5 * n + 1))
   unfolding Plan5.plan
@@ -62,6 +69,7 @@ deep =
     (λ n m source a. depth1 far n m source (a .vertices-some))
     (λ n source a. depth2 far n 0 source (a .vertices-some))
     (λ n m source a. depth3 far n m source (a .vertices-some))
+    (λ n m a. depth4 far n m 0 (a .vertices-some))
     (λ n m source a. depth5 far n m source (a .vertices-some))
 
 pub rounds-plan : (h : Header) → Accepted h → depthOf (drop 1 (planOf h)) ≡ roundsOfPlan h

@@ -11,7 +11,7 @@ fn main() {
     // One byte more than `all` has: a longer argument comes back empty, as a missing one does, and both count as none.
     let mut argument = [0u8; 4];
     let given = os::arg(1, &mut argument);
-    let mut text = [0u8; 2894];
+    let mut text = [0u8; 67374];
     let length = console::desk_text(&argument[..given], &bytes[..size], &mut text);
     io::write_all(STDOUT_FILENO, &text[..length]);
 }

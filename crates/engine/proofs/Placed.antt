@@ -29,6 +29,7 @@ verdict-below =
     by-method (λ h. (count : ℕ) → cellsOf h ≤ count → There (verdictCell h) count) (λ n m source a count l. omega arith)
     (λ n source a count l. tt)
     (λ n m source a count l. omega arith)
+    (λ n m a count l. omega arith)
     (λ n m source a count l. omega arith)
 
 -- ---- by the ways out

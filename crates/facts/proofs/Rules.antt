@@ -15,6 +15,7 @@ use Rattle.plans.specs.Outline.{instructions}
 use Rattle.plans.specs.Method1 as Method1
 use Rattle.plans.specs.Method2 as Method2
 use Rattle.plans.specs.Method3 as Method3
+use Rattle.plans.specs.Method4 as Method4
 use Rattle.plans.specs.Method5 as Method5
 use Rattle.plans.specs.Plan.{Kind, instructionsOf, planOf, wordCountOf, cellsOf, resultsOf, lengthOf, verdictCell}
 use Rattle.plans.proofs.EachKind.{each-kind}
@@ -31,7 +32,7 @@ use Rattle.intake.specs.Intake.{stripsOf, sourceOf, laid, copied, startingCells
 use Rattle.intake.proofs.Facts as Intake
 use Rattle.demands.specs.Run.{Outcome, verdictOf, outcome}
 use Rattle.demands.specs.Network.{sourcesOf}
-use Rattle.demands.specs.Totals.{totalBelow}
+use Rattle.demands.specs.Sums.{sumBound}
 use Rattle.saved.specs.Saved.{convertible, converted, savedRefusal, conversionOutcome}
 use Rattle.saved.proofs.Facts as Saved
 use Rattle.comparisons.proofs.Facts as Comparisons
@@ -45,7 +46,7 @@ near : pos 549755813786 ≢ pos 549755813887
 near e = omega (arith, ap natAbs e)
 
 pub rules : Rules
-unfolding signedOf bitsOf bit wrapAdd both pick perform packed packedSet decodeAt zerosKept present admissibleAt carry logged cellsAfter logFrom logOf withoutPublishedFrom withoutPublished sumOf greatestFrom decodeAll depthOf chargeOf flat instructions Method1.plan Method2.plan Method3.plan Method5.plan instructionsOf planOf cellsOf resultsOf lengthOf headerRefusal weightOf wordCountOf logLengthOf verdictCell sizesRefusal inRange edgeRefusal sortedRefusal entryRefusal wordRefusal wordsRefusal lastRefusal requestRefusal stripsOf sourceOf laid copied startingCells firstBad logSize runnerRefusal planOutcome verdictOf outcome sourcesOf totalBelow convertible converted savedRefusal conversionOutcome
+unfolding signedOf bitsOf bit wrapAdd both pick perform packed packedSet decodeAt zerosKept present admissibleAt carry logged cellsAfter logFrom logOf withoutPublishedFrom withoutPublished sumOf greatestFrom decodeAll depthOf chargeOf flat instructions Method1.plan Method2.plan Method3.plan Method4.plan Method5.plan instructionsOf planOf cellsOf resultsOf lengthOf headerRefusal weightOf wordCountOf logLengthOf verdictCell sizesRefusal inRange edgeRefusal sortedRefusal entryRefusal wordRefusal wordsRefusal lastRefusal requestRefusal stripsOf sourceOf laid copied startingCells firstBad logSize runnerRefusal planOutcome verdictOf outcome sourcesOf sumBound convertible converted savedRefusal conversionOutcome
 rules =
     record {
       answers = Answers.facts;
@@ -59,14 +60,14 @@ rules =
       saved = Saved.facts;
       comparisons = Comparisons.facts;
       finer = refl;
-      one = (refl, refl, refl, refl);
+      one = (refl, refl, refl, refl, refl);
       two = refl;
       three = refl;
-      four = refl;
+      four = (refl, refl);
       five = (refl, refl);
       six = refl;
       seven = refl;
-      eight = (refl, refl, refl);
+      eight = (refl, refl, refl, refl);
       nine = refl;
       ten = (refl, refl);
       eleven = refl;
@@ -78,8 +79,9 @@ rules =
       fault-order = (refl, refl, refl, refl);
       refuses = refl;
       untouched = same _ _ refl refl refl (each-kind _ refl refl refl);
+      untouched4 = same _ _ refl refl refl (each-kind _ refl refl refl);
       untouched5 = same _ _ refl refl refl (each-kind _ refl refl refl);
-      totals = (
+      sums = (
         λ f. f near .lt,
         λ f. f near (λ e. omega (arith, ap natAbs e)) .lt,
         λ f. f near .lt,
@@ -87,6 +89,10 @@ rules =
         λ x. record { lt = tt },
         λ x. absurd (x refl),
         λ x w. absurd (w refl),
+        (record { le = tt }, record { le = tt }),
+        (record { le = tt }, record { le = tt }),
+        λ f. f .0 .le,
+        λ f. f .1 .le,
       );
-      sources = (refl, refl, refl, refl);
+      sources = (refl, refl, refl, refl, refl);
     }

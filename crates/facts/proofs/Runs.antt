@@ -1,4 +1,4 @@
--- The tables of specs/Corners, Sorted and Routed, by computing the definitions. Rests on those alone.
+-- The tables of specs/Corners, Sorted, Routed and Tabled, by computing the definitions. Rests on those alone.
 use mathlib.Core.Path.{refl}
 use Rattle.fields.specs.Fields.{signedOf, bitsOf}
 use Rattle.machine.specs.Effect.{bit, wrapAdd, both, pick, perform}
@@ -10,6 +10,7 @@ use Rattle.plans.specs.Outline.{instructions}
 use Rattle.plans.specs.Method1 as Method1
 use Rattle.plans.specs.Method2 as Method2
 use Rattle.plans.specs.Method3 as Method3
+use Rattle.plans.specs.Method4 as Method4
 use Rattle.plans.specs.Method5 as Method5
 use Rattle.plans.specs.Plan.{instructionsOf, planOf, wordCountOf, cellsOf, resultsOf, lengthOf, verdictCell}
 use Rattle.headers.specs.Refusal.{headerRefusal}
@@ -20,9 +21,10 @@ use Rattle.demands.specs.Run.{verdictOf, outcome}
 use Rattle.facts.specs.Corners.{Corners}
 use Rattle.facts.specs.Sorted.{Sorted}
 use Rattle.facts.specs.Routed.{Routed}
+use Rattle.facts.specs.Tabled.{Tabled}
 
-runs : Corners × Sorted × Routed
-unfolding signedOf bitsOf bit wrapAdd both pick perform packed packedSet decodeAt zerosKept present admissibleAt carry logged cellsAfter logFrom logOf withoutPublishedFrom withoutPublished greatestFrom decodeAll depthOf chargeOf flat instructions Method1.plan Method2.plan Method3.plan Method5.plan instructionsOf planOf cellsOf resultsOf lengthOf headerRefusal weightOf wordCountOf logLengthOf verdictCell sizesRefusal inRange edgeRefusal sortedRefusal entryRefusal wordRefusal wordsRefusal lastRefusal requestRefusal stripsOf sourceOf laid startingCells verdictOf copied outcome
+runs : Corners × Sorted × Routed × Tabled
+unfolding signedOf bitsOf bit wrapAdd both pick perform packed packedSet decodeAt zerosKept present admissibleAt carry logged cellsAfter logFrom logOf withoutPublishedFrom withoutPublished greatestFrom decodeAll depthOf chargeOf flat instructions Method1.plan Method2.plan Method3.plan Method4.plan Method5.plan instructionsOf planOf cellsOf resultsOf lengthOf headerRefusal weightOf wordCountOf logLengthOf verdictCell sizesRefusal inRange edgeRefusal sortedRefusal entryRefusal wordRefusal wordsRefusal lastRefusal requestRefusal stripsOf sourceOf laid startingCells verdictOf copied outcome
 runs = (
   record {
     smallest = (refl, refl, refl);
@@ -59,6 +61,16 @@ runs = (
     circles = (record { answers = refl; route = refl }, refl, refl);
     others = refl;
   },
+  record {
+    smallest = record { answers = refl; table = refl; parents = refl };
+    printed = record { answers = refl; table = refl; parents = refl };
+    parallel = (record { answers = refl; table = refl; parents = refl }, record { answers = refl; table = refl; parents = refl });
+    over-the-last = record { answers = refl; table = refl; parents = refl };
+    apart = record { answers = refl; table = refl; parents = refl };
+    circles = (refl, refl, record { answers = refl; table = refl; parents = refl });
+    loops =
+        (refl, record { answers = refl; table = refl; parents = refl }, record { answers = refl; table = refl; parents = refl });
+  },
 )
 
 pub corners : Corners
@@ -69,3 +81,6 @@ sorted = runs .1
 
 pub routed : Routed
 routed = runs .2
+
+pub tabled : Tabled
+tabled = runs .3

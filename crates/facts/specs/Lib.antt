@@ -1,4 +1,5 @@
 pub mod Corners
 pub mod Sorted
 pub mod Routed
+pub mod Tabled
 pub mod Rules

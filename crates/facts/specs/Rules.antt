@@ -21,7 +21,7 @@ use Rattle.runner.specs.Facts as Runner
 use Rattle.runner.specs.Runner.{planOutcome}
 use Rattle.demands.specs.Run.{Lent, outcome}
 use Rattle.demands.specs.Network.{sourcesOf}
-use Rattle.demands.specs.Totals.{totalBelow}
+use Rattle.demands.specs.Sums.{sumBound}
 use Rattle.saved.specs.Saved.{conversionOutcome}
 use Rattle.saved.specs.Facts as Saved
 use Rattle.comparisons.specs.Facts as Comparisons
@@ -44,7 +44,7 @@ pub record Rules : Type 0 where
   pub answers : Answers.Facts
   -- "Cell words"
   pub machine : Machine.Facts
-  -- "Plan of method 1", "Plan of method 2", those of methods 3 and 5, and the limits of "Request words"
+  -- "Plan of method 1", "Plan of method 2", those of methods 3, 4 and 5, and the limits of "Request words"
   pub plans : Plans.Facts
   -- "Who caused it": headers, writing a plan
   pub headers : Headers.Facts
@@ -61,27 +61,30 @@ pub record Rules : Type 0 where
   -- The printed request's distances, 0 and -5, converted are those of its run with the lane at -500.
   pub finer : conversionOutcome (pos 0 ∷ negsuc 4 ∷ []) .saved
       ≡ outcome (0x1000020000100000 ∷ 0x00010000FFFFFE0C ∷ []) (nines 17 48 2 2) .results distances
-  -- "1: header missing, or method not 1 or 2", and "refusal 1 admits" methods 3 and 5 (document 02, asks 3 and 5).
+  -- "1: header missing, or method not 1 or 2", and "refusal 1 admits" methods 3, 4 and 5 (document 02, asks 3, 8 and 5).
   pub one : (requestAnswered [] 17 48 2 2 ≡ byNumber 1)
-      × (requestAnswered (0x4000020000100000 ∷ 0 ∷ []) 17 48 2 2 ≡ byNumber 1)
+      × (requestAnswered (0x0000020000100000 ∷ 0 ∷ []) 17 48 2 2 ≡ byNumber 1)
       × (requestAnswered (0x6000020000100000 ∷ 0 ∷ 0 ∷ []) 21 63 2 2 ≡ byNumber 1)
+      × (requestAnswered (0x4000020000100000 ∷ 0 ∷ []) 19 104 4 0 ≡ record { number = 0; place = none; values = 37 ∷ 104 ∷ 0 ∷ [] })
       × (requestAnswered (0x5000020000100000 ∷ 0 ∷ 0 ∷ []) 21 63 2 2 ≡ record { number = 0; place = none; values = 31 ∷ 63 ∷ 0 ∷ [] })
   -- "2: n is 0 or over 32."
   pub two : requestAnswered (0x1000000000100000 ∷ 0 ∷ []) 17 48 2 2 ≡ byNumber 2
   -- "3: m over 128, or not 0 in method 2."
   pub three : requestAnswered (0x2000010000100000 ∷ 0 ∷ []) 17 48 2 2 ≡ byNumber 3
-  -- "4: source not below n."
-  pub four : requestAnswered (0x1000020000100002 ∷ 0 ∷ []) 17 48 2 2 ≡ byNumber 4
+  -- "4: source not below n"; in method 4 "the source field must be 0, else refusal 4" (document 02, ask 8).
+  pub four : (requestAnswered (0x1000020000100002 ∷ 0 ∷ []) 17 48 2 2 ≡ byNumber 4)
+      × (requestAnswered (0x4000020000100001 ∷ 0 ∷ []) 19 104 4 0 ≡ byNumber 4)
   -- "5: words after the header are not m, or not n² in method 2"; in method 5 "5 expects m+1 words" (document 02, ask 5).
   pub five : (requestAnswered (0x1000020000100000 ∷ []) 17 48 2 2 ≡ byNumber 5) × (requestAnswered (0x5000020000100000 ∷ 0 ∷ []) 21 63 2 2 ≡ byNumber 5)
   -- "6: too few cells."
   pub six : requestAnswered (0x1000020000100000 ∷ 0 ∷ []) 16 48 2 2 ≡ byNumber 6
   -- "7: log .. too short."
   pub seven : requestAnswered (0x1000020000100000 ∷ 0 ∷ []) 17 47 2 2 ≡ byNumber 7
-  -- "8: a results buffer shorter than n", and "8 covers the route buffer of n−1 places", here of 4 yards.
+  -- "8: a results buffer shorter than n"; "8 covers the route buffer of n−1 places", here of 4 yards; in method 4 "8 needs n² places".
   pub eight : (requestAnswered (0x1000020000100000 ∷ 0 ∷ []) 17 48 1 2 ≡ byNumber 8)
       × (requestAnswered (0x1000020000100000 ∷ 0 ∷ []) 17 48 2 1 ≡ byNumber 8)
       × (requestAnswered (0x5000040000000000 ∷ 0 ∷ []) 28 61 4 4 ≡ byNumber 8)
+      × (requestAnswered (0x4000020000100000 ∷ 0 ∷ []) 19 104 3 9 ≡ byNumber 8)
   -- "9, with place": the SET at place 1 is fine, the COPY at place 2 has a b.
   pub nine : planOutcome (0x1000020000100000 ∷ 0 ∷ 0x1000000000000001 ∷ []) (pos 9 ∷ pos 9 ∷ []) (9 ∷ 9 ∷ 9 ∷ []) .answer ≡ atPlace 9 2
   -- "10 keeps the spare bits only" (document 02, ask 1).
@@ -127,6 +130,22 @@ pub record Rules : Type 0 where
         log = smallestPlan ++ (0 ∷ 9 ∷ []);
         results = byKind (pos 0 ∷ pos 9 ∷ []) (negsuc 0 ∷ pos 9 ∷ []) (pos 9 ∷ pos 9 ∷ []);
       }
+  -- The same in method 4; the parents and the route are not looked at. HIGH is 2^20 × FAR, 2^59 - 2^20.
+  pub untouched4 : outcome (0x4000010000000000 ∷ []) (nines 11 41 2 1)
+      ≡ record {
+        answer = record { number = 0; place = none; values = 16 ∷ 40 ∷ 0 ∷ [] };
+        cells =
+            (pos 0 ∷ pos 0 ∷ pos 0 ∷ pos 0 ∷ pos 549755813887 ∷ pos 576460752302374912 ∷ [])
+            ++ (pos 0 ∷ pos 0 ∷ pos 0 ∷ pos 0 ∷ pos 9 ∷ []);
+        log =
+            (0x4000010000000000 ∷ 0x0000030000000000 ∷ 0x0000047FFFFFFFFF ∷ 0x0000057FFFFFFFFF ∷ [])
+            ++ replicate 20 0x2000050000500005
+            ++ (0x0000060000000000 ∷ 0x0000090000000000 ∷ 0x1000000000500000 ∷ 0x1000000000600000 ∷ [])
+            ++ (0x1000010000000000 ∷ 0x1000020000000000 ∷ 0x2000070000100002 ∷ 0x3000080000700000 ∷ 0x6000000000800007 ∷ [])
+            ++ (0x3000080000000006 ∷ 0x2000090000900008 ∷ 0x5000090000900009 ∷ 0x3000080000400000 ∷ 0x6000000000800004 ∷ [])
+            ++ (0x7000000000900000 ∷ 0 ∷ 9 ∷ []);
+        results = byKind (pos 0 ∷ pos 9 ∷ []) (pos 9 ∷ []) (pos 9 ∷ pos 9 ∷ []);
+      }
   -- The same in method 5, with a route of n - 1 places.
   pub untouched5 : outcome (0x5000020000000000 ∷ 1 ∷ []) (nines 19 22 3 3)
       ≡ record {
@@ -141,17 +160,22 @@ pub record Rules : Type 0 where
             ++ (0x40000B0000800005 ∷ 0x6000110000B00003 ∷ 0x6000070000B00010 ∷ 0x7000000000D00000 ∷ 0 ∷ 9 ∷ []);
         results = byKind (pos 0 ∷ pos 549755813887 ∷ pos 9 ∷ []) (negsuc 0 ∷ negsuc 0 ∷ pos 9 ∷ []) (negsuc 0 ∷ pos 9 ∷ []);
       }
-  -- "must be shown below it": of a reached yard's total and a price, in every method, a sum of FAR is not, one less is; from an unreached yard, or
-  -- in method 2 where there is no lane, nothing is said.
-  pub totals : (¬ totalBelow (headerOf 0x1000010000000000) (pos 549755813786) (pos 101))
-      × (¬ totalBelow (headerOf 0x2000010000000000) (pos 549755813786) (pos 101))
-      × (¬ totalBelow (headerOf 0x3000010000000000) (pos 549755813786) (pos 101))
-      × (¬ totalBelow (headerOf 0x5000010000000000) (pos 549755813786) (pos 101))
-      × totalBelow (headerOf 0x1000010000000000) (pos 549755813786) (pos 100)
-      × totalBelow (headerOf 0x1000010000000000) (pos 549755813887) (pos 100)
-      × totalBelow (headerOf 0x2000010000000000) (pos 100) (pos 549755813887)
-  -- The sources that distances are from: the header's, in every method.
+  -- "must be shown below it": of a reached yard's total and a price, in every method but 4, a sum of FAR is not, one less is; from an unreached yard,
+  -- or in method 2 where there is no lane, nothing is said. In method 4: of two entries of -10^8 × 2^32, and of two that are HIGH; one past each end.
+  pub sums : (¬ sumBound (headerOf 0x1000010000000000) (pos 549755813786) (pos 101))
+      × (¬ sumBound (headerOf 0x2000010000000000) (pos 549755813786) (pos 101))
+      × (¬ sumBound (headerOf 0x3000010000000000) (pos 549755813786) (pos 101))
+      × (¬ sumBound (headerOf 0x5000010000000000) (pos 549755813786) (pos 101))
+      × sumBound (headerOf 0x1000010000000000) (pos 549755813786) (pos 100)
+      × sumBound (headerOf 0x1000010000000000) (pos 549755813887) (pos 100)
+      × sumBound (headerOf 0x2000010000000000) (pos 100) (pos 549755813887)
+      × sumBound (headerOf 0x4000010000000000) (negsuc 429496729599999999) (negsuc 429496729599999999)
+      × sumBound (headerOf 0x4000010000000000) (pos 576460752302374912) (pos 576460752302374912)
+      × (¬ sumBound (headerOf 0x4000010000000000) (negsuc 429496729599999999) (negsuc 429496729600000000))
+      × (¬ sumBound (headerOf 0x4000010000000000) (pos 576460752302374912) (pos 576460752302374913))
+  -- The sources that distances are from: the header's, in method 4 every yard.
   pub sources : (sourcesOf (headerOf 0x1000200008000007) ≡ 7 ∷ [])
       × (sourcesOf (headerOf 0x2000200000000013) ≡ 19 ∷ [])
       × (sourcesOf (headerOf 0x3000200008000005) ≡ 5 ∷ [])
+      × (sourcesOf (headerOf 0x4000030000000000) ≡ 0 ∷ 1 ∷ 2 ∷ [])
       × (sourcesOf (headerOf 0x5000200008000006) ≡ 6 ∷ [])

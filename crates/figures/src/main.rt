@@ -1,5 +1,5 @@
-// Larger networks through the engine: 32 yards in every method, 60 lanes in method 1, 128 in method 3, 59 in method 5, and the figures of their
-// runs.
+// Larger networks through the engine: 32 yards in every method, 60 lanes in methods 1 and 4, 128 in method 3, 59 in method 5, and the figures of
+// their runs.
 // Rests on engine, lines and replies; tests/model has the same networks, and expects the same figures.
 use engine::Answer;
 use engine::Report;
@@ -8,6 +8,7 @@ use plans::Header;
 ghost use mathlib.Core.Path.{_≡_};
 ghost use Prim.Native.Nat.{_^_, _<_, _≤_};
 ghost use lib.ListN.{length};
+ghost use Rattle.plans.specs.Plan.{Accepted};
 ghost use Rattle.engine.specs.Answer.{toldByRun};
 
 // -1 in the 32 bits of a price; in a table it says that there is no lane.
@@ -34,6 +35,8 @@ enum Case {
     SortedCircle,
     // As Ties, sorted; to four of the unreached yards there is no lane.
     SortedTies,
+    // One circle through every yard but 0, of total -1. No lane leads from yard 0 or to it.
+    Apart,
 }
 
 // The next draw, a number below `k`; `x` is where the draws stand.
@@ -83,13 +86,13 @@ fn climb(from: u64, to: u64, base: u64) -> u64
     lane(from, to, raised(base, steep(from), steep(to)))
 }
 
-// A climb between any two yards, its base at least `least`.
-fn anywhere(x: &mut u64, least: u64) -> u64
-    requires { ⌜ (now x < 2 ^ 31) × (least < 2) ⌝ }
+// A climb between any two yards from yard `first` on, its base at least `least`.
+fn anywhere(x: &mut u64, first: u64, least: u64) -> u64
+    requires { ⌜ (now x < 2 ^ 31) × (first < 2) × (least < 2) ⌝ }
     ensures { λ _. ⌜ now (x .exit) < 2 ^ 31 ⌝ }
 {
-    let from = draw(x, 32);
-    let to = draw(x, 32);
+    let from = first + draw(x, 32 - first);
+    let to = first + draw(x, 32 - first);
     climb(from, to, least + draw(x, 400))
 }
 
@@ -101,21 +104,22 @@ fn chain(x: &mut u64, i: u64) -> u64
     if i < 31 {
         return climb(30 - i, 31 - i, draw(x, 30));
     }
-    anywhere(x, 0)
+    anywhere(x, 0, 0)
 }
 
-// Lane `i` of the circle's request. Only the circle that the last lane closes has a loss: lanes anywhere have a base of 1 or more.
-fn circle(x: &mut u64, i: u64, last: u64) -> u64
-    requires { ⌜ now x < 2 ^ 31 ⌝ }
+// Lane `i` of the request with a circle from yard `first` on. Only the circle that the last lane closes has a loss: lanes anywhere have a base of
+// 1 or more.
+fn circle(x: &mut u64, i: u64, first: u64, last: u64) -> u64
+    requires { ⌜ (now x < 2 ^ 31) × (first < 2) ⌝ }
     ensures { λ _. ⌜ now (x .exit) < 2 ^ 31 ⌝ }
 {
-    if i < 31 {
+    if i < 31 - first {
         return climb(30 - i, 31 - i, 0);
     }
     if i < last {
-        return anywhere(x, 1);
+        return anywhere(x, first, 1);
     }
-    climb(31, 0, MINUS_ONE)
+    climb(31, first, MINUS_ONE)
 }
 
 // Lane `i` of the ties' request. The first twelve go round by threes on one height, so their price is 0; the yards from 24 on are entered
@@ -223,13 +227,14 @@ fn word_of(case: Case, x: &mut u64, i: u64) -> u64
     // A sorted case has 128 lanes.
     match case {
         Case::Chain => chain(x, i),
-        Case::Circle(last) => circle(x, i, last),
+        Case::Circle(last) => circle(x, i, 0, last),
         Case::Ties => ties(x, i),
         Case::Sparse => sparse(x, i),
         Case::Dense => dense(x, i),
         Case::SortedChain => sorted_chain(x, i % 128),
         Case::SortedCircle => sorted_circle(x, i % 128),
         Case::SortedTies => sorted_ties(x, i % 128),
+        Case::Apart => circle(x, i, 1, 59),
     }
 }
 
@@ -278,7 +283,7 @@ fn put_figures(buffer: &mut [u8], h: Header, report: Report, log: &[u64]) -> usi
     text::put_numbers(buffer, 0, &line)
 }
 
-// A run's figures and, where there are results, its yards and its route.
+// A run's figures and, where there are results, its rows and its route.
 fn put_run(
     buffer: &mut [u8],
     h: Header,
@@ -288,13 +293,13 @@ fn put_run(
     parents: &[i64],
     route: &[i64],
 ) -> usize
-    requires { ⌜ (2936 ≤ length (now buffer)) × (length (now distances) ≡ 32) × (length (now parents) ≡ 32) × (length (now route) ≡ 31) × (toldByRun answer .number ≡ 0 → (0 < h .vertices) × (h .vertices ≤ 32)) ⌝ }
+    requires { ⌜ (67416 ≤ length (now buffer)) × (length (now distances) ≡ 1024) × (length (now parents) ≡ 32) × (length (now route) ≡ 31) × (toldByRun answer .number ≡ 0 → Accepted h) ⌝ }
     ensures { λ r. ⌜ r ≤ length (now (buffer .exit)) ⌝ }
 {
     match answer {
         Answer::Ran(report) => {
             let next = put_figures(buffer, h, report, log);
-            let last = lines::put_rows(buffer, next, true, h.vertices as usize, distances, parents);
+            let last = lines::put_rows(buffer, next, true, h, distances, parents);
             lines::put_route(buffer, last, h, route)
         }
         Answer::NegativeCycle(report) => put_figures(buffer, h, report, log),
@@ -309,7 +314,7 @@ fn show(request: &[u64])
     let h = headers::read_header(request[0]);
     let mut cells = [0i64; 8874];
     let mut log = [0u64; 497321];
-    let mut distances = [0i64; 32];
+    let mut distances = [0i64; 1024];
     let mut parents = [0i64; 32];
     let mut route = [0i64; 31];
     let answer = engine::run(
@@ -320,7 +325,7 @@ fn show(request: &[u64])
         &mut parents,
         &mut route,
     );
-    let mut buffer = [0u8; 2936];
+    let mut buffer = [0u8; 67416];
     let size = put_run(&mut buffer, h, answer, &log, &distances, &parents, &route);
     io::write_all(STDOUT_FILENO, &buffer[..size]);
 }
@@ -358,4 +363,8 @@ fn main() {
     show_route(Case::Chain, 1000, 0x5000200003B00000, 31, &mut lanes);
     show_route(Case::Circle(58), 2, 0x5000200003B00000, 31, &mut lanes);
     show_route(Case::Ties, 940, 0x5000200003B00005, 10, &mut lanes);
+    build(Case::Chain, 1000, 0x4000200003C00000, &mut lanes);
+    show(&lanes);
+    build(Case::Apart, 7, 0x4000200003C00000, &mut lanes);
+    show(&lanes);
 }

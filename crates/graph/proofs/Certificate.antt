@@ -25,6 +25,21 @@ Closed net far dist = (e : Edge) → net e → dist (e .from) <ℤ far → (dist
 pub near : {d far : ℤ} → d ≤ℤ far → d ≢ far → d <ℤ far
 near {d} {far} low h = elim (le-or-lt far d) [ inl k ↦ absurd (h (omega arithℤ)) | inr k ↦ k ]
 
+-- Walks that no walk undercuts.
+pub undercut-by-none : (net : Network) (far : ℤ) (n s : ℕ) (dist : ℕ → ℤ) → ((v : ℕ) → v < n → dist v ≤ℤ far)
+    → ((v : ℕ) → v < n → dist v <ℤ far → WalkOf net s v (dist v))
+    → ((es : List Edge) (v : ℕ) → v < n → Chain net s es v → (dist v <ℤ far) × (dist v ≤ℤ total es)) → Distances net far n s dist
+undercut-by-none net far n s dist low walks least =
+    record {
+      reached = λ v l h.
+          let w = walks v l (near (low v l) h) in
+          (w .0, record { leads = w .1; sums = w .2; least = λ fs c. least fs v l c .1 });
+      unreached = λ v l. (
+        λ (e : dist v ≡ far) w. omega (arithℤ, least (w .0) v l (w .1) .0),
+        λ f. elim (le-or-lt far (dist v)) [ inl h ↦ omega (arithℤ, low v l) | inr h ↦ absurd (f (let w = walks v l h in (w .0, w .1))) ],
+      );
+    }
+
 module _ (net : Network) (far : ℤ) (n s : ℕ) (dist : ℕ → ℤ) (closed : Closed net far dist) where
   along : (es : List Edge) (u v : ℕ) → Chain net u es v → dist u <ℤ far → (dist v <ℤ far) × (dist v ≤ℤ (dist u +ℤ total es))
   along [] u v c h = rw (← c) (h, omega (arithℤ, sum (dist u) (pos 0)))
@@ -44,16 +59,7 @@ module _ (net : Network) (far : ℤ) (n s : ℕ) (dist : ℕ → ℤ) (closed : 
         (a .0, omega (arithℤ, sound .start, sum (dist s) (total es)))
 
     pub distances : ((v : ℕ) → v < n → dist v ≤ℤ far) → Distances net far n s dist
-    distances low =
-        record {
-          reached = λ v l h.
-              let w = sound .walks v l (near (low v l) h) in
-              (w .0, record { leads = w .1; sums = w .2; least = λ fs c. closed-least fs v c .1 });
-          unreached = λ v l. (
-            λ (e : dist v ≡ far) w. omega (arithℤ, closed-least (w .0) v (w .1) .0),
-            λ f. elim (le-or-lt far (dist v)) [ inl h ↦ omega (arithℤ, low v l) | inr h ↦ absurd (f (let w = sound .walks v l h in (w .0, w .1))) ],
-          );
-        }
+    distances low = undercut-by-none net far n s dist low (sound .walks) (λ es v l c. closed-least es v c)
 
     pub no-negative-cycle : ¬ NegativeCycle net s
     no-negative-cycle z =

@@ -1,18 +1,16 @@
 -- What distances say of walks: one to a vertex reaches it, the source's distance is 0, there is no negative cycle; how large they are; and that
 -- there is one row of them. Rests on walks and on the integer kit.
 use mathlib.Core.Path.{_≡_, refl, sym, ap, _∙_}
-use mathlib.Core.Logic.{_≢_, inl, inr}
+use mathlib.Core.Logic.{_≢_}
 use mathlib.Core.List.{List, [], _∷_, _++_}
 use Prim.Native.Nat.{ℕ, _-_, _*_, _<_, _≤_}
-use native.Mathlib.Nat.{mul-le-mul-right}
 use native.Mathlib.Omega.{arith}
 use lib.IntN.{ℤ, pos, natAbs, ℤ-discrete}
-use lib.ListN.{length}
 use lib.Signed.{_≤ℤ_}
 use Rattle.graph.specs.Walk.{Edge, Network, Chain, total, Walk, NegativeCycle, Below}
 use Rattle.graph.specs.Shortest.{Distances}
-use Rattle.graph.proofs.Int.{arithℤ, sum, abs-add}
-use Rattle.graph.proofs.Walk.{total-append, chain-append, shorten}
+use Rattle.graph.proofs.Int.{arithℤ, sum}
+use Rattle.graph.proofs.Walk.{total-append, chain-append, short}
 
 end-below : (net : Network) (n : ℕ) → Below net n → (es : List Edge) (u v : ℕ) → Chain net u es v → u < n → v < n
 end-below net n b [] u v c h = rw (← c) h
@@ -48,20 +46,12 @@ module _ (net : Network) (far : ℤ) (n s : ℕ) (dist : ℕ → ℤ) (d : Dista
 -- With weights of at most W either way, a distance is at most n - 1 of them.
 module _ (net : Network) (far : ℤ) (n s : ℕ) (dist : ℕ → ℤ) (d : Distances net far n s dist) (below : Below net n) (inside : s < n)
     (W : ℕ) (weights : (e : Edge) → net e → natAbs (e .weight) ≤ W) where
-  total-within : (es : List Edge) (u v : ℕ) → Chain net u es v → natAbs (total es) ≤ length es * W
-  total-within [] u v c = omega arith
-  total-within (e ∷ es) u v c = omega (arith, abs-add (e .weight) (total es), weights e (c .0), total-within es (e .to) v (c .2))
-
   pub distance-within : (v : ℕ) → v < n → dist v ≢ far → natAbs (dist v) ≤ (n - 1) * W
   distance-within v l h =
       let r = d .reached v l h in
-      elim (shorten net n below s inside (r .0) v (r .1 .leads)) [
-        | inl t ↦
-            let same : total (t .walk) ≡ dist v = omega (arithℤ, t .cheap, r .1 .sums, r .1 .least (t .walk) (t .leads)) in
-            let few : length (t .walk) ≤ n - 1 = omega (arith, t .few) in
-            omega (arith, ap natAbs same, total-within (t .walk) s v (t .leads), mul-le-mul-right W few)
-        | inr z ↦ absurd (no-cycle net far n s dist d below inside z)
-      ]
+      let t = short net W weights n below s inside (no-cycle net far n s dist d below inside) (r .0) v (r .1 .leads) in
+      let same : total (t .0) ≡ dist v = omega (arithℤ, t .2, r .1 .sums, r .1 .least (t .0) (t .1)) in
+      omega (arith, ap natAbs same, t .3)
 
 -- A network has one row of distances.
 pub one-row : (net : Network) (far : ℤ) (n s : ℕ) (dist dist′ : ℕ → ℤ) → Distances net far n s dist → Distances net far n s dist′

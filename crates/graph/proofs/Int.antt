@@ -102,7 +102,7 @@ pub abs : (a : ℤ) → natAbs a ≡ up a + dn a
 abs (pos n) = omega arith
 abs (negsuc n) = omega arith
 
-abs-most : (a : ℤ) (b : ℕ) → up a ≤ b + dn a → dn a ≤ b + up a → natAbs a ≤ b
+pub abs-most : (a : ℤ) (b : ℕ) → up a ≤ b + dn a → dn a ≤ b + up a → natAbs a ≤ b
 abs-most (pos n) b h k = omega arith
 abs-most (negsuc n) b h k = omega arith
 

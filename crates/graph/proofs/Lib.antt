@@ -1,4 +1,5 @@
--- The theorems on Bellman-Ford, in place and by Jacobi passes, on Dijkstra, on routes and on other weights, and what they rest on, in order.
+-- The theorems on Bellman-Ford, in place and by Jacobi passes, on Dijkstra, on Floyd-Warshall, on routes and on other weights, and what they rest
+-- on, in order.
 -- Rests on the definitions.
 pub mod Int
 pub mod Pigeon
@@ -14,6 +15,7 @@ pub mod Sweep
 pub mod Dijkstra
 pub mod SameEdges
 pub mod Distances
+pub mod Floyd
 pub mod Marks
 pub mod Route
 pub mod Product

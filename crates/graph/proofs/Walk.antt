@@ -1,17 +1,18 @@
--- Walks are appended and cut. A walk of n edges or more goes round a closed one: some shorter walk costs no more, or there is a negative cycle.
+-- Walks are appended and cut. A walk of n edges or more goes round a closed one: some shorter walk costs no more, or there is a negative cycle; and how
+-- much a short one costs.
 -- Rests on the pigeonhole principle and the integer kit.
 use mathlib.Core.Path.{_≡_, refl, sym, ap, _∙_, subst}
 use mathlib.Core.Logic.{_⊎_, inl, inr}
 use mathlib.Core.List.{List, [], _∷_, _++_}
-use Prim.Native.Nat.{ℕ, zero, suc, _+_, _-_, _<_, _≤_}
+use Prim.Native.Nat.{ℕ, zero, suc, _+_, _-_, _*_, _<_, _≤_}
 use native.Mathlib.Omega.{arith}
 use native.Mathlib.Decide.{decLe}
-use native.Mathlib.Nat.{zero-add, suc-add}
-use lib.IntN.{ℤ, pos, _+ℤ_}
+use native.Mathlib.Nat.{zero-add, suc-add, mul-le-mul-right}
+use lib.IntN.{ℤ, pos, natAbs, _+ℤ_}
 use lib.Signed.{_≤ℤ_}
 use lib.ListN.{length, take, drop, take-append-drop, length-append, length-take, length-drop}
 use Rattle.graph.specs.Walk.{Edge, Network, Chain, total, NegativeCycle, Below}
-use Rattle.graph.proofs.Int.{arithℤ, sum, le-or-lt}
+use Rattle.graph.proofs.Int.{arithℤ, sum, le-or-lt, abs-add}
 use Rattle.graph.proofs.Pigeon.{pigeon}
 
 -- A walk from u to v of total d.
@@ -173,3 +174,20 @@ module _ (net : Network) (n : ℕ) (below : Below net n) (u : ℕ) (inside : u <
 
   pub shorten : (es : List Edge) (v : ℕ) → Chain net u es v → Short net u v n (total es) ⊎ NegativeCycle net u
   shorten es v c = cut-down (suc (length es)) es v (omega arith) c
+
+-- With weights of at most W either way, a walk costs at most as many of them as it has edges.
+module _ (net : Network) (W : ℕ) (weights : (e : Edge) → net e → natAbs (e .weight) ≤ W) where
+  total-within : (es : List Edge) (u v : ℕ) → Chain net u es v → natAbs (total es) ≤ length es * W
+  total-within [] u v c = omega arith
+  total-within (e ∷ es) u v c = omega (arith, abs-add (e .weight) (total es), weights e (c .0), total-within es (e .to) v (c .2))
+
+  -- Without a negative cycle some walk costs no more, and at most n - 1 of them.
+  pub short : (n : ℕ) → Below net n → (u : ℕ) → u < n → ¬ NegativeCycle net u → (es : List Edge) (v : ℕ) → Chain net u es v
+      → (fs : List Edge) × Chain net u fs v × (total fs ≤ℤ total es) × (natAbs (total fs) ≤ (n - 1) * W)
+  short n below u inside none es v c =
+      elim (shorten net n below u inside es v c) [
+        | inl t ↦
+            let few : length (t .walk) ≤ n - 1 = omega (arith, t .few) in
+            (t .walk, t .leads, t .cheap, omega (arith, total-within (t .walk) u v (t .leads), mul-le-mul-right W few))
+        | inr z ↦ absurd (none z)
+      ]

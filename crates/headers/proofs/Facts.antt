@@ -8,7 +8,8 @@ pub facts : Facts
 unfolding bitsOf headerRefusal
 facts =
     record {
-      ends = (refl, refl, refl, refl, refl, refl, refl, refl, refl, refl, refl, refl, refl, refl, refl, refl, refl);
+      ends = (refl, refl, refl, refl, refl, refl, refl, refl, refl, refl, refl, refl, refl, refl, refl, refl);
+      ends4 = (refl, refl, refl, refl, refl, refl, refl, refl, refl);
       ends5 = (refl, refl, refl, refl, refl, refl, refl);
       order = (refl, refl, refl, refl, refl, refl, refl, refl);
     }

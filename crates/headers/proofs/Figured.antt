@@ -13,13 +13,15 @@ use Rattle.headers.specs.declared.Figures.{Figures}
 use Rattle.headers.specs.Figures.{cellIn, inCode, figuresOf, Figured}
 
 -- The last method.
-pub method-five : (h : Header) → Accepted h → (h .method ≡ 1 → ⊥) → (h .method ≡ 2 → ⊥) → (h .method ≡ 3 → ⊥) → h .method ≡ 5
+pub method-five : (h : Header) → Accepted h → (h .method ≡ 1 → ⊥) → (h .method ≡ 2 → ⊥) → (h .method ≡ 3 → ⊥) → (h .method ≡ 4 → ⊥)
+    → h .method ≡ 5
 method-five =
-    by-method (λ h. (h .method ≡ 1 → ⊥) → (h .method ≡ 2 → ⊥) → (h .method ≡ 3 → ⊥) → h .method ≡ 5)
-    (λ n m source a one two three. absurd (one refl))
-    (λ n source a one two three. absurd (two refl))
-    (λ n m source a one two three. absurd (three refl))
-    (λ n m source a one two three. refl)
+    by-method (λ h. (h .method ≡ 1 → ⊥) → (h .method ≡ 2 → ⊥) → (h .method ≡ 3 → ⊥) → (h .method ≡ 4 → ⊥) → h .method ≡ 5)
+    (λ n m source a one two three four. absurd (one refl))
+    (λ n source a one two three four. absurd (two refl))
+    (λ n m source a one two three four. absurd (three refl))
+    (λ n m a one two three four. absurd (four refl))
+    (λ n m source a one two three four. refl)
 
 -- ---- the length's parts
 
@@ -33,6 +35,7 @@ pub record Sizes (n m : ℕ) : Type 0 where
   pub words1 : m * (8 * (n * n) + 3 * n - 1) ≤ 1060736
   pub rounds1 : m * (n * n + 9 * n - 9) ≤ 166784
   pub words3 : m * (3 * (n * n) + 10 * n - 1) ≤ 434048
+  pub words4 : m * (3 * (n * n) + 6 * n) ≤ 417792
   pub words5 : m * (8 * (n * n) + 5 * n) ≤ 1069056
   pub turns5 : (n - 1) * (n + 9) ≤ 1271
   pub rounds5 : m * ((n - 1) * (n + 9)) ≤ 162688
@@ -52,6 +55,7 @@ sizes h a =
       words1 = edges-le (h .edges) edges-few _ 8287 (omega arith);
       rounds1 = edges-le (h .edges) edges-few _ 1303 (omega arith);
       words3 = edges-le (h .edges) edges-few _ 3391 (omega arith);
+      words4 = edges-le (h .edges) edges-few _ 3264 (omega arith);
       words5 = edges-le (h .edges) edges-few _ 8352 (omega arith);
       turns5 = turns5;
       rounds5 = edges-le (h .edges) edges-few _ 1271 turns5;

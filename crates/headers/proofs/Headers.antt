@@ -14,17 +14,30 @@ use Rattle.answers.specs.Refusal.{Method, Vertices, Edges, Source, need}
 use Rattle.answers.proofs.Unmet.{first-none}
 use Rattle.answers.proofs.Meets.{Meets, first-meets}
 use Rattle.plans.specs.declared.Header.{Header}
-use Rattle.plans.specs.Limits.{knownMethod, mostEdges}
+use Rattle.plans.specs.Limits.{knownMethod, mostEdges, sourceCount}
 use Rattle.plans.specs.Plan.{Accepted}
 use Rattle.headers.specs.Refusal.{headerTests, headerRefusal}
 
 -- No other method is known.
-pub no-other : (method : ℕ) → (method ≡ 1 → ⊥) → (method ≡ 2 → ⊥) → (method ≡ 3 → ⊥) → (method ≡ 5 → ⊥) → false ≡ knownMethod method
-no-other method a b c d = rw (ne-eqb method 1 a, ne-eqb method 2 b, ne-eqb method 3 c, ne-eqb method 5 d)
+pub no-other : (method : ℕ) → (method ≡ 1 → ⊥) → (method ≡ 2 → ⊥) → (method ≡ 3 → ⊥) → (method ≡ 4 → ⊥) → (method ≡ 5 → ⊥)
+    → false ≡ knownMethod method
+no-other method a b c d f = rw (ne-eqb method 1 a, ne-eqb method 2 b, ne-eqb method 3 c, ne-eqb method 4 d, ne-eqb method 5 f)
 
--- Only methods 1, 3 and 5 have edges.
-pub no-edges : (method : ℕ) → (method ≡ 1 → ⊥) → (method ≡ 3 → ⊥) → (method ≡ 5 → ⊥) → 0 ≡ mostEdges method
-no-edges method a c d = by-test (eqb method 2) (λ e. rw (eqb-true method 2 e)) (λ e. rw (ne-eqb method 1 a, e, ne-eqb method 3 c, ne-eqb method 5 d))
+-- All but method 2 have edges.
+pub no-edges : (method : ℕ) → (method ≡ 1 → ⊥) → (method ≡ 3 → ⊥) → (method ≡ 4 → ⊥) → (method ≡ 5 → ⊥) → 0 ≡ mostEdges method
+no-edges method a c d f =
+    by-test (eqb method 2) (λ e. rw (eqb-true method 2 e))
+    (λ e. rw (ne-eqb method 1 a, e, ne-eqb method 3 c, ne-eqb method 4 d, ne-eqb method 5 f))
+
+-- Method 4 has one source, and any other as many as there are vertices.
+pub one-source : (method n : ℕ) → method ≡ 4 → 1 ≡ sourceCount method n
+one-source method n e = rw e
+
+pub every-source : (method n : ℕ) → (method ≡ 4 → ⊥) → n ≡ sourceCount method n
+every-source method n f =
+    by-test (eqb method 1) (λ e. rw e)
+    (λ a. by-test (eqb method 2) (λ e. rw (a, e))
+    (λ b. by-test (eqb method 3) (λ e. rw (a, b, e)) (λ c. by-test (eqb method 5) (λ e. rw (a, b, c, ne-eqb method 4 f, e)) (λ e. rw (a, b, c, ne-eqb method 4 f, e)))))
 
 -- k is what `known` answers of the method.
 module _ (h : Header) (k : Bool) (is : k ≡ knownMethod (h .method)) where
@@ -55,8 +68,9 @@ module _ (h : Header) (known : knownMethod (h .method) ≡ true) where
           lt-leb (h .edges) (mostEdges (h .method)) a,
         )
 
-    module _ (e : h .edges ≤ mostEdges (h .method)) where
-      by-source : need (ltb (h .source) (h .vertices)) Source none ≡ headerRefusal h
+    -- count is what `source_count` answers.
+    module _ (e : h .edges ≤ mostEdges (h .method)) (count : ℕ) (count-is : count ≡ sourceCount (h .method) (h .vertices)) where
+      by-source : need (ltb (h .source) count) Source none ≡ headerRefusal h
       unfolding headerRefusal
       by-source =
           simp (
@@ -64,13 +78,14 @@ module _ (h : Header) (known : knownMethod (h .method) ≡ true) where
             lt-ltb 0 (h .vertices) v₁,
             le-leb (h .vertices) 32 v₂,
             le-leb (h .edges) (mostEdges (h .method)) e,
+            count-is,
           )
 
-      pub source-high : h .vertices ≤ h .source → some Source ≡ headerRefusal h
-      source-high a = rw (← by-source, le-ltb (h .source) (h .vertices) a)
+      pub source-high : count ≤ h .source → some Source ≡ headerRefusal h
+      source-high a = rw (← by-source, le-ltb (h .source) count a)
 
-      pub none-met : h .source < h .vertices → none ≡ headerRefusal h
-      none-met a = rw (← by-source, lt-ltb (h .source) (h .vertices) a)
+      pub none-met : h .source < count → none ≡ headerRefusal h
+      none-met a = rw (← by-source, lt-ltb (h .source) count a)
 
 pub accepted : (h : Header) → none ≡ headerRefusal h → Accepted h
 unfolding headerRefusal
@@ -82,7 +97,7 @@ accepted h e =
       vertices-some = ltb→lt 0 (h .vertices) some-vertex;
       vertices-few = leb→le (h .vertices) 32 few;
       edges-few = leb→le (h .edges) _ edges;
-      source-there = ltb→lt (h .source) (h .vertices) source;
+      source-there = ltb→lt (h .source) _ source;
     }
 
 -- What holds of these four holds of the one that is met.

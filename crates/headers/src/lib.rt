@@ -3,13 +3,14 @@
 mod method1;
 mod method2;
 mod method3;
+mod method4;
 mod method5;
 
 use answers::Checked;
 use plans::Header;
 use plans::Span;
 ghost use mathlib.Core.Path.{_≡_};
-ghost use Rattle.plans.specs.Limits.{knownMethod, mostEdges};
+ghost use Rattle.plans.specs.Limits.{knownMethod, mostEdges, sourceCount};
 ghost use Rattle.plans.specs.Plan.{headerOf, Accepted, roundsOfPlan};
 ghost use Rattle.answers.specs.Refusal.{found};
 ghost use Rattle.headers.specs.Refusal.{headerRefusal};
@@ -56,6 +57,7 @@ fn known(method: u64) -> bool
         1 => true,
         2 => true,
         3 => true,
+        4 => true,
         5 => true,
         _ => false,
     }
@@ -67,9 +69,17 @@ fn most_edges(method: u64) -> u64
     match method {
         1 => plans::MOST_EDGES,
         3 => plans::MOST_EDGES,
+        4 => plans::MOST_EDGES,
         5 => plans::MOST_EDGES,
         _ => 0,
     }
+}
+
+// How many sources a header may name, of n vertices; method 4 has them all, and names 0.
+fn source_count(method: u64, n: u64) -> u64
+    ensures { λ r. ⌜ r ≡ sourceCount method n ⌝ }
+{
+    if method == 4 { 1 } else { n }
 }
 
 // Refusals 1 to 4.
@@ -88,7 +98,7 @@ pub fn check_header(h: Header) -> Checked
     if most_edges(h.method) < h.edges {
         return Checked::Refused(answers::EDGES);
     }
-    if h.vertices <= h.source {
+    if source_count(h.method, h.vertices) <= h.source {
         return Checked::Refused(answers::SOURCE);
     }
     Checked::Accepted
@@ -104,6 +114,7 @@ pub fn figures_of(h: Header) -> Figures
         1 => method1::figures(h),
         2 => method2::figures(h),
         3 => method3::figures(h),
+        4 => method4::figures(h),
         _ => method5::figures(h),
     }
 }
@@ -118,6 +129,7 @@ pub fn rounds_of(h: Header) -> u64
         1 => method1::rounds(h),
         2 => method2::rounds(h),
         3 => method3::rounds(h),
+        4 => method4::rounds(h),
         _ => method5::rounds(h),
     }
 }

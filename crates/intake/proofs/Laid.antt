@@ -24,7 +24,7 @@ use Rattle.plans.specs.Method2 as Method2
 use Rattle.plans.specs.Plan.{Accepted, wordCountOf, cellsOf}
 use Rattle.plans.proofs.Headers.{by-method}
 use Rattle.limits.specs.Word.{destinationIn, fromField, toField, weightOf}
-use Rattle.limits.proofs.Sizes.{cells-one, cells-two, cells-three, cells-five}
+use Rattle.limits.proofs.Sizes.{cells-one, cells-two, cells-three, cells-four, cells-five}
 use Rattle.intake.specs.declared.Part.the-variants.{Entry, Whole}
 use Rattle.intake.specs.declared.Strip.{Strip}
 use Rattle.intake.specs.Intake.{strip, edgeStrips, stripsOf, Source, nothing, sourceIn, covers, sourceFrom, sourceOf, orFar, partOf, laid, copied, startingCells, stripNumbers, StripFits, empty, mostStrips, padded}
@@ -139,6 +139,10 @@ module _ (h : Header) where
   unfolding stripsOf
   strips-three e = rw e
 
+  strips-four : h .method ≡ 4 → stripsOf h ≡ edgeStrips (h .edges) (h .edges) (2 * h .edges)
+  unfolding stripsOf
+  strips-four e = rw e
+
   strips-five : h .method ≡ 5
       → stripsOf h
       ≡ edgeStrips (h .edges) (h .edges) (2 * h .edges) ++ (strip (3 * h .edges + 3 * h .vertices + 8) 1 (h .edges) Whole ∷ [])
@@ -169,6 +173,7 @@ strips-fit =
     (λ n m source a. search arith)
     (λ n source a. search arith)
     (λ n m source a. search arith)
+    (λ n m a. search arith)
     (λ n m source a. search arith)
 
 -- ---- the whole
@@ -278,6 +283,9 @@ module _ (h : Header) (ws : List ℕ) (lent : List ℤ) where
 
   pub edges-three : h .method ≡ 3 → EdgesLaid (h .edges + 1) (2 * h .edges + 1)
   edges-three e = edges-laid _ _ [] (strips-three h e) (omega arith) (omega arith) (omega (arith, cells-three h e)) (λ k l. tt)
+
+  pub edges-four : h .method ≡ 4 → EdgesLaid (h .edges) (2 * h .edges)
+  edges-four e = edges-laid _ _ [] (strips-four h e) (omega arith) (omega arith) (omega (arith, cells-four h e)) (λ k l. tt)
 
   pub edges-five : h .method ≡ 5 → EdgesLaid (h .edges) (2 * h .edges)
   edges-five e =

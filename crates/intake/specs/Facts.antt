@@ -42,6 +42,19 @@ pub record Facts : Type 0 where
       × (sourceOf (headerOf 0x300020000800001F) 384 ≡ field 127 Weight)
       × (sourceOf (headerOf 0x300020000800001F) 385 ≡ nothing)
       × (sourceOf (headerOf 0x3000010000000000) 0 ≡ nothing)
+  -- Ask 8: "from 0, to m, price 2m .. Intake fills the first 3m", the same.
+  pub strips4 : (sourceOf (headerOf 0x4000020000100000) 0 ≡ field 0 From)
+      × (sourceOf (headerOf 0x4000020000100000) 1 ≡ field 0 To)
+      × (sourceOf (headerOf 0x4000020000100000) 2 ≡ field 0 Weight)
+      × (sourceOf (headerOf 0x4000020000100000) 3 ≡ nothing)
+      × (sourceOf (headerOf 0x4000200008000000) 127 ≡ field 127 From)
+      × (sourceOf (headerOf 0x4000200008000000) 128 ≡ field 0 To)
+      × (sourceOf (headerOf 0x4000200008000000) 255 ≡ field 127 To)
+      × (sourceOf (headerOf 0x4000200008000000) 256 ≡ field 0 Weight)
+      × (sourceOf (headerOf 0x4000200008000000) 383 ≡ field 127 Weight)
+      × (sourceOf (headerOf 0x4000200008000000) 384 ≡ nothing)
+      × (sourceOf (headerOf 0x4000200008000000) 1509 ≡ nothing)
+      × (sourceOf (headerOf 0x4000010000000000) 0 ≡ nothing)
   -- Ask 5: "as method 1, and Z takes the last word": Z at 3m+3n+8, of one lane, of the most and of none.
   pub strips5 : (sourceOf (headerOf 0x5000020000100000) 0 ≡ field 0 From)
       × (sourceOf (headerOf 0x5000020000100000) 1 ≡ field 0 To)
@@ -63,6 +76,9 @@ pub record Facts : Type 0 where
   -- Ask 3: "Intake fills from, to and price; the rest start at 0": lanes 1 to 0 at -5 and 0 to 1 at 100,000,000, of 36 cells, and one more.
   pub start3 : startingCells (headerOf 0x3000020000200000) (0x01000000FFFFFFFB ∷ 0x0001000005F5E100 ∷ []) (replicate 37 (pos 9))
       ≡ (pos 1 ∷ pos 0 ∷ pos 0 ∷ pos 0 ∷ pos 1 ∷ negsuc 4 ∷ pos 100000000 ∷ []) ++ replicate 29 (pos 0) ++ (pos 9 ∷ [])
+  -- Ask 8: the same lanes, of 22 cells, and one more.
+  pub start4 : startingCells (headerOf 0x4000020000200000) (0x01000000FFFFFFFB ∷ 0x0001000005F5E100 ∷ []) (replicate 23 (pos 9))
+      ≡ (pos 1 ∷ pos 0 ∷ pos 0 ∷ pos 1 ∷ negsuc 4 ∷ pos 100000000 ∷ []) ++ replicate 16 (pos 0) ++ (pos 9 ∷ [])
   -- Ask 5: the same lanes and the destination 1, of 24 cells, and one more.
   pub start5 : startingCells (headerOf 0x5000020000200000) (0x01000000FFFFFFFB ∷ 0x0001000005F5E100 ∷ 1 ∷ []) (replicate 25 (pos 9))
       ≡ (pos 1 ∷ pos 0 ∷ pos 0 ∷ pos 1 ∷ negsuc 4 ∷ pos 100000000 ∷ [])

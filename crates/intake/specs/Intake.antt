@@ -35,6 +35,7 @@ stripsOf h =
     (edgeStrips m m (2 * m)
     ∷ (strip 0 (n * n) 0 Entry ∷ [])
     ∷ edgeStrips m (m + 1) (2 * m + 1)
+    ∷ edgeStrips m m (2 * m)
     ∷ (edgeStrips m m (2 * m) ++ (strip (3 * m + 3 * n + 8) 1 m Whole ∷ []))
     ∷ [])
 

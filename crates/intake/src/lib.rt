@@ -65,6 +65,7 @@ fn strips_of(h: Header) -> [Strip; 4]
         1 => edge_strips(m, m, 2 * m, empty),
         2 => [Strip::new(0, n * n, 0, Part::Entry), empty, empty, empty],
         3 => edge_strips(m, m + 1, 2 * m + 1, empty),
+        4 => edge_strips(m, m, 2 * m, empty),
         _ => edge_strips(
             m,
             m,

@@ -18,15 +18,15 @@ use Rattle.answers.specs.declared.Refusal.{Refusal}
 use Rattle.answers.specs.Refusal.{plain, placed, orElse}
 use Rattle.answers.proofs.Unmet.{first-append}
 use Rattle.plans.specs.declared.Header.{Header}
-use Rattle.plans.specs.Limits.{byMethod, isIn, methods, mostWeight, leastWeight}
-use Rattle.plans.specs.Plan.{Accepted, wordCountOf, cellsOf, Kind, byKind, resultsOf, lengthOf, verdictCell}
+use Rattle.plans.specs.Limits.{isIn, methods, mostWeight, leastWeight}
+use Rattle.plans.specs.Plan.{Accepted, wordCountOf, cellsOf, Kind, resultsOf, lengthOf, verdictCell}
 use Rattle.plans.proofs.EachKind.{each-kind, every-kind}
 use Rattle.plans.proofs.Headers.{header, by-method}
 use Rattle.headers.specs.Refusal.{headerTests, headerRefusal}
 use Rattle.limits.specs.declared.Lengths.{Lengths}
 use Rattle.limits.specs.Word.{destinationIn, fromField, toField, spareOfEdge, spareOfEntry, weightOf}
 use Rattle.limits.specs.Refusal.{logLengthOf, roomFor, askedOf, sizesTests, sizesRefusal, inRange, edgeTests, edgeRefusal, orderTests, sortedRefusal, entryTests, entryRefusal, wordRefusal, lastTests, lastRefusal}
-use Rattle.limits.specs.WithinLimits.{OneOf, headerLimits, logFigure, sizesLimits, edgeLimits, orderLimits, entryLimits, wordLimits, lastOf}
+use Rattle.limits.specs.WithinLimits.{OneOf, headerLimits, logFigure, resultsFigure, sizesLimits, edgeLimits, orderLimits, entryLimits, wordLimits, lastOf}
 use Rattle.limits.proofs.Agreed.{Agree, Agrees, agreed}
 
 -- ---- one test
@@ -61,24 +61,21 @@ log-figure =
     (λ n m source a. one-more (3 * n) 4 (m * (8 * (n * n) + 3 * n - 1)))
     (λ n source a. sym (add-zero _))
     (λ n m source a. one-more (3 * (n * n) + 3 * n) 5 (m * (3 * (n * n) + 10 * n - 1)))
+    (λ n m a. one-more (3 * (n * n * n) + 5 * (n * n) + 4 * n) 27 (m * (3 * (n * n) + 6 * n)))
     (λ n m source a. one-more (3 * (n * n) + 2 * n) 4 (m * (8 * (n * n) + 5 * n)))
   where
     one-more : (a b x : ℕ) → a + suc b + x ≡ a + b + x + 1
     one-more a b x = omega arith
 
--- So many results of each kind.
-abbrev resultsFigure : Header → Kind → ℕ
-resultsFigure h =
-    let n = h .vertices in
-    byMethod (h .method) (λ k. 0) (byKind n n 0 ∷ byKind n n 0 ∷ byKind n n 0 ∷ byKind n n (n - 1) ∷ [])
-
-results-figure : (h : Header) → Accepted h → (k : Kind) → resultsFigure h k ≡ roomFor (askedOf h) k
+-- The results of each kind.
+results-figure : (h : Header) → Accepted h → (k : Kind) → resultsFigure (h .method) (h .vertices) k ≡ roomFor (askedOf h) k
 unfolding resultsOf
 results-figure =
-    by-method (λ h. (k : Kind) → resultsFigure h k ≡ roomFor (askedOf h) k)
+    by-method (λ h. (k : Kind) → resultsFigure (h .method) (h .vertices) k ≡ roomFor (askedOf h) k)
     (λ n m source a. each-kind _ refl refl refl)
     (λ n source a. each-kind _ refl refl refl)
     (λ n m source a. each-kind _ refl refl refl)
+    (λ n m a. each-kind _ refl refl refl)
     (λ n m source a. each-kind _ refl refl refl)
 
 sizes-agree : (h : Header) → Accepted h → (words : ℕ) (lent : Lengths)
@@ -123,7 +120,7 @@ header-agrees h ts ls after = (
       at-most (h .edges) _,
       λ edges. (
         refl,
-        is-below (h .source) (h .vertices),
+        is-below (h .source) _,
         λ source.
             after
             (record {
@@ -186,21 +183,28 @@ entry-agrees : (place w : ℕ) → Agree (λ k. placed k place) (entryTests plac
 unfolding inRange
 entry-agrees place w = (refl, is-zero (spareOfEntry w), λ spare. (refl, or-none (weightOf w), λ weight. tt))
 
+-- With nothing more.
+lone-edge : (n place w : ℕ) → Agrees (λ k. placed k place) (edgeRefusal n place w) (edgeLimits n w [])
+unfolding edgeRefusal
+lone-edge n place w =
+    agreed (λ k. placed k place) (λ k. refl) (edgeTests n place w []) (edgeLimits n w []) (edge-agrees n place w [] [] tt)
+
 pub word-agrees : (h : Header) → Accepted h → (place before w : ℕ)
     → Agrees (λ k. placed k place) (wordRefusal h place before w) (wordLimits (h .method) (h .vertices) before w)
-unfolding wordRefusal edgeRefusal sortedRefusal entryRefusal
+unfolding wordRefusal sortedRefusal entryRefusal
 word-agrees =
     by-method
     (λ h. (place before w : ℕ)
     → Agrees (λ k. placed k place) (wordRefusal h place before w) (wordLimits (h .method) (h .vertices) before w))
-    (λ n m source a place before w. agreed (λ k. placed k place) (λ k. refl) (edgeTests n place w []) (edgeLimits n w []) (edge-agrees n place w [] [] tt))
+    (λ n m source a place before w. lone-edge n place w)
     (λ n source a place before w. agreed (λ k. placed k place) (λ k. refl) (entryTests place w) (entryLimits w) (entry-agrees place w))
     (λ n m source a place before w.
     let ts = orderTests place before w in
     let ls = orderLimits before w in
     agreed (λ k. placed k place) (λ k. refl) (edgeTests n place w ts) (edgeLimits n w ls)
     (edge-agrees n place w ts ls (order-agrees place before w)))
-    (λ n m source a place before w. agreed (λ k. placed k place) (λ k. refl) (edgeTests n place w []) (edgeLimits n w []) (edge-agrees n place w [] [] tt))
+    (λ n m a place before w. lone-edge n place w)
+    (λ n m source a place before w. lone-edge n place w)
 
 -- ---- what is tested last
 
@@ -212,5 +216,6 @@ last-agrees =
     (λ n m source a ws. agreed plain (λ k. refl) [] [] tt)
     (λ n source a ws. agreed plain (λ k. refl) [] [] tt)
     (λ n m source a ws. agreed plain (λ k. refl) [] [] tt)
+    (λ n m a ws. agreed plain (λ k. refl) [] [] tt)
     (λ n m source a ws.
     agreed plain (λ k. refl) (lastTests (header 5 n m source) ws) (lastOf 5 n (getD ws m 0)) (refl, is-below (getD ws m 0) n, λ there. tt))

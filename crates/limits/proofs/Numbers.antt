@@ -47,8 +47,8 @@ module _ (P : Refusal → Type 0) where
       let edge = first-meets P (edgeTests n place w []) (spare, (from, (to, (weight, tt)))) in
       let entry = first-meets P (entryTests place w) (spare, (weight, tt)) in
       let sorted = first-meets P (edgeTests n place w (orderTests place before w)) (spare, (from, (to, (weight, (order, tt))))) in
-      of-row (Meets P) (edgeRefusal n place w ∷ entryRefusal place w ∷ sortedRefusal n place before w ∷ edgeRefusal n place w ∷ [])
-      (edge, (entry, (sorted, (edge, tt)))) (h .method) none (none-meets P)
+      of-row (Meets P) (edgeRefusal n place w ∷ entryRefusal place w ∷ sortedRefusal n place before w ∷ edgeRefusal n place w ∷ edgeRefusal n place w ∷ [])
+      (edge, (entry, (sorted, (edge, (edge, tt))))) (h .method) none (none-meets P)
 
   words-meet : OfWords P → (h : Header) (place before : ℕ) (ws : List ℕ) → Meets P (wordsRefusal h place before ws)
   unfolding wordsRefusal
@@ -61,7 +61,7 @@ module _ (P : Refusal → Type 0) where
   last-meets destination h ws =
       first-meets P (lastTests h ws)
       (of-row (OfEach P)
-      ([] ∷ [] ∷ [] ∷ ((ltb (destinationIn h ws) (h .vertices), Destination) ∷ []) ∷ []) (tt, (tt, (tt, ((destination, tt), tt))))
+      ([] ∷ [] ∷ [] ∷ [] ∷ ((ltb (destinationIn h ws) (h .vertices), Destination) ∷ []) ∷ []) (tt, (tt, (tt, (tt, ((destination, tt), tt)))))
       (h .method) [] tt)
 
   request-meets : OfPublic P → OfWords P → P Destination → (request : List ℕ) (lent : Lengths) → Meets P (requestRefusal request lent)

@@ -48,7 +48,7 @@ pub placed-few : (h : Header) → Plan.Accepted h → placedCount (h .method) (h
 unfolding wordCountOf
 placed-few =
     by-method (λ h. placedCount (h .method) (h .vertices) (h .edges) ≤ wordCountOf h) (λ n m source a. omega arith)
-    (λ n source a. omega arith) (λ n m source a. omega arith) (λ n m source a. omega arith)
+    (λ n source a. omega arith) (λ n m source a. omega arith) (λ n m a. omega arith) (λ n m source a. omega arith)
 
 pub header-good : (h : Header) (s : Checked) → found s ≡ headerRefusal h → s ≡ Accepted → Plan.Accepted h
 header-good h s header e = accepted h (rw e at header)

@@ -37,6 +37,10 @@ module _ (h : Header) where
   unfolding cellsOf
   cells-three e = rw e
 
+  pub cells-four : h .method ≡ 4 → 3 * h .edges + h .vertices * h .vertices + 3 * h .vertices + 6 ≡ cellsOf h
+  unfolding cellsOf
+  cells-four e = rw e
+
   pub cells-five : h .method ≡ 5 → 3 * h .edges + 5 * h .vertices + 8 ≡ cellsOf h
   unfolding cellsOf
   cells-five e = rw e

@@ -1,13 +1,13 @@
 -- A request meets no refusal exactly where it is within the limits; what the code's definitions make of these; and how large its fields are.
--- Rests on Limits, Sizes, Order and headers' Headers.
+-- Rests on Limits, Sizes, Words, Order and headers' Headers.
 use mathlib.Core.Path.{_≡_, refl, sym, _∙_}
-use mathlib.Core.Logic.{_↔_, _⊎_, inl, inr}
+use mathlib.Core.Logic.{_↔_, _⊎_}
 use mathlib.Core.List.{List, [], _∷_}
 use mathlib.Core.Option.{none, Option·some-ne-none}
 use Prim.Native.Nat.{ℕ, zero, suc, _-_, _*_, _<_, _≤_}
 use native.Mathlib.Nat.{le-of-suc-le-suc, not-suc-le-zero}
 use native.Mathlib.Omega.{arith}
-use lib.Dec.{leb→le}
+use lib.Dec.{T, leb→le}
 use lib.IntN.{ℤ, pos, negsuc, natAbs}
 use lib.ListN.{length, getD}
 use lib.Seq.{length-take-le, getD-take}
@@ -15,8 +15,9 @@ use lib.Signed.{_≤ℤ_}
 use Rattle.answers.specs.Refusal.{Method, orElse}
 use Rattle.answers.proofs.Unmet.{orElse-none}
 use Rattle.plans.specs.declared.Header.{Header}
-use Rattle.plans.specs.Limits.{mostWeight, leastWeight}
+use Rattle.plans.specs.Limits.{isIn, mostWeight, leastWeight}
 use Rattle.plans.specs.Plan.{Accepted, wordCountOf, cellsOf, Kind, resultsOf}
+use Rattle.plans.proofs.Headers.{by-method}
 use Rattle.headers.specs.Refusal.{headerRefusal}
 use Rattle.headers.proofs.Headers.{accepted}
 use Rattle.limits.specs.declared.Lengths.{Lengths}
@@ -24,6 +25,7 @@ use Rattle.limits.specs.Word.{placedCount, destinationIn, fromField, toF
 use Rattle.limits.specs.Refusal.{logLengthOf, roomFor, sizesRefusal, wordRefusal, wordsRefusal, lastRefusal, requestRefusal}
 use Rattle.limits.specs.WithinLimits.{headerIn, wordsIn, placedIn, AllKept, publicLimits, edgeLimits, orderLimits, entryLimits, wordLimits, lastOf, WithinLimits}
 use Rattle.limits.proofs.Sizes.{Sized, sizes-none}
+use Rattle.limits.proofs.Words.{placed-edges}
 use Rattle.limits.proofs.Order.{placed-few, no-word, in-order}
 use Rattle.limits.proofs.Limits.{public-agrees, word-agrees, last-agrees}
 
@@ -144,19 +146,24 @@ edge-within : (n word : ℕ) (more : List (ℕ × Type 0)) → AllKept (edgeLimi
 edge-within n word more (_, (from, (to, (weight, _)))) =
     record { from-below = from; to-below = to; weight-most = either-way (weightOf word) (weight .0) (weight .1) }
 
--- A place for each edge.
-edges-placed : (method n m : ℕ) → (method ≡ 1) ⊎ (method ≡ 3) ⊎ (method ≡ 5) → placedCount method n m ≡ m
-edges-placed method n m (inl one) = rw one
-edges-placed method n m (inr (inl three)) = rw three
-edges-placed method n m (inr (inr five)) = rw five
+-- A method over edges: the words that have a place are edges'.
+abbrev pub OverEdges : (method : ℕ) → Type 0
+OverEdges method = T (isIn (1 ∷ 3 ∷ 4 ∷ 5 ∷ []) method)
 
 -- By the method, whatever comes before a word.
-module _ (method n before word : ℕ) (kept : AllKept (wordLimits method n before word)) where
-  as-edge : (method ≡ 1) ⊎ (method ≡ 3) ⊎ (method ≡ 5) → EdgeWithin n word
-  as-edge (inl one) = edge-within n word [] (rw one at kept)
-  as-edge (inr (inl three)) = edge-within n word (orderLimits before word) (rw three at kept)
-  as-edge (inr (inr five)) = edge-within n word [] (rw five at kept)
+as-edge : (h : Header) → Accepted h → OverEdges (h .method) → (before word : ℕ)
+    → AllKept (wordLimits (h .method) (h .vertices) before word) → EdgeWithin (h .vertices) word
+as-edge =
+    by-method
+    (λ h. OverEdges (h .method) → (before word : ℕ)
+    → AllKept (wordLimits (h .method) (h .vertices) before word) → EdgeWithin (h .vertices) word)
+    (λ n m source a over before word. edge-within n word [])
+    (λ n source a over. absurd over)
+    (λ n m source a over before word. edge-within n word (orderLimits before word))
+    (λ n m a over before word. edge-within n word [])
+    (λ n m source a over before word. edge-within n word [])
 
+module _ (method n before word : ℕ) (kept : AllKept (wordLimits method n before word)) where
   as-sorted : method ≡ 3 → toField before ≤ toField word
   as-sorted three =
       let all : AllKept (edgeLimits n word (orderLimits before word)) = rw three at kept in
@@ -193,9 +200,11 @@ module _ (request : List ℕ) (lent : Lengths) (w : WithinLimits request lent) w
           length-take-le count (wordsIn request) (omega (arith, counted-in _ _ w, placed-few header (accepted-in _ _ w))) in
           rw placed-word at (w .words i (omega (arith, all)))
 
-    -- Methods 1, 3 and 5: word i is an edge's.
-    pub edge-in : (header .method ≡ 1) ⊎ (header .method ≡ 3) ⊎ (header .method ≡ 5) → i < header .edges → EdgeWithin (header .vertices) word
-    edge-in e l = as-edge _ _ _ word (kept-at (rw (edges-placed (header .method) (header .vertices) (header .edges) e) l)) e
+    -- A method over edges: word i is an edge's.
+    pub edge-in : OverEdges (header .method) → i < header .edges → EdgeWithin (header .vertices) word
+    edge-in over l =
+        let a = accepted-in _ _ w in
+        as-edge header a over _ word (kept-at (rw (← placed-edges header a (λ two. rw two at over)) l))
 
     -- Method 2: word i is an entry's.
     pub entry-in : header .method ≡ 2 → i < header .vertices * header .vertices

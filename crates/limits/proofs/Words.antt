@@ -1,5 +1,5 @@
 -- Which refusal a word meets, by the ways out of `check_weight`, `check_edge`, `check_sorted`, `check_entry` and `check_word`; and words in
--- their order. Rests on the machine's laws of signed numbers, headers' Figured and answers' Unmet.
+-- their order. Rests on the laws of plans, the machine's laws of signed numbers and answers' Unmet.
 use mathlib.Core.Path.{_≡_, refl, sym, _∙_}
 use mathlib.Core.Bool.{Bool, true, false, not}
 use mathlib.Core.List.{List, []}
@@ -23,7 +23,6 @@ use Rattle.plans.specs.declared.Header.{Header}
 use Rattle.plans.specs.Limits.{mostWeight, leastWeight, noEdge}
 use Rattle.plans.specs.Plan as Plan
 use Rattle.plans.proofs.Headers.{by-method}
-use Rattle.headers.proofs.Figured.{method-five}
 use Rattle.limits.specs.Word.{placedCount, fromField, toField, spareOfEdge, spareOfEntry, weightOf}
 use Rattle.limits.specs.Refusal.{inRange, edgeTests, edgeRefusal, orderTests, sortedRefusal, entryRefusal, wordRefusal, wordsRefusal, lastRefusal}
 
@@ -101,10 +100,6 @@ module _ (place w x : ℕ) (spare : x ≡ spareOfEntry w) where
 
 -- By the method: s is what its check answers.
 module _ (h : Header) (place before w : ℕ) (s : Checked) where
-  pub an-edge : h .method ≡ 1 → found s ≡ edgeRefusal (h .vertices) place w → found s ≡ wordRefusal h place before w
-  unfolding wordRefusal
-  an-edge one is = rw (one, is)
-
   pub an-entry : h .method ≡ 2 → found s ≡ entryRefusal place w → found s ≡ wordRefusal h place before w
   unfolding wordRefusal
   an-entry two is = rw (two, is)
@@ -113,10 +108,19 @@ module _ (h : Header) (place before w : ℕ) (s : Checked) where
   unfolding wordRefusal
   a-sorted-edge three is = rw (three, is)
 
-  pub a-routed-edge : Plan.Accepted h → (h .method ≡ 1 → ⊥) → (h .method ≡ 2 → ⊥) → (h .method ≡ 3 → ⊥)
+  pub an-edge : Plan.Accepted h → (h .method ≡ 2 → ⊥) → (h .method ≡ 3 → ⊥)
       → found s ≡ edgeRefusal (h .vertices) place w → found s ≡ wordRefusal h place before w
   unfolding wordRefusal
-  a-routed-edge a one two three is = rw (method-five h a one two three, is)
+  an-edge a two three is =
+      is
+      ∙ by-method
+      (λ h. (h .method ≡ 2 → ⊥) → (h .method ≡ 3 → ⊥) → edgeRefusal (h .vertices) place w ≡ wordRefusal h place before w)
+      (λ n m source a two three. refl)
+      (λ n source a two three. absurd (two refl))
+      (λ n m source a two three. absurd (three refl))
+      (λ n m a two three. refl)
+      (λ n m source a two three. refl)
+      h a two three
 
 -- ---- how many words have a place, and what comes after them, by the ways out of `placed_count` and `check_last`
 
@@ -127,13 +131,13 @@ module _ (h : Header) where
   pub placed-edges : Plan.Accepted h → (h .method ≡ 2 → ⊥) → h .edges ≡ placedCount (h .method) (h .vertices) (h .edges)
   placed-edges =
       by-method (λ h. (h .method ≡ 2 → ⊥) → h .edges ≡ placedCount (h .method) (h .vertices) (h .edges))
-      (λ n m source a two. refl) (λ n source a two. absurd (two refl)) (λ n m source a two. refl) (λ n m source a two. refl) h
+      (λ n m source a two. refl) (λ n source a two. absurd (two refl)) (λ n m source a two. refl) (λ n m a two. refl) (λ n m source a two. refl) h
 
   pub no-destination : Plan.Accepted h → (h .method ≡ 5 → ⊥) → (ws : List ℕ) → none ≡ lastRefusal h ws
   unfolding lastRefusal
   no-destination =
       by-method (λ h. (h .method ≡ 5 → ⊥) → (ws : List ℕ) → none ≡ lastRefusal h ws)
-      (λ n m source a five ws. refl) (λ n source a five ws. refl) (λ n m source a five ws. refl)
+      (λ n m source a five ws. refl) (λ n source a five ws. refl) (λ n m source a five ws. refl) (λ n m a five ws. refl)
       (λ n m source a five ws. absurd (five refl)) h
 
   module _ (request : List ℕ) (five : h .method ≡ 5) where

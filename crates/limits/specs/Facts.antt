@@ -1,5 +1,5 @@
--- Document 01, "Request words" and "Who caused it", and asks 1, 3 and 5 of document 02, as facts about literal requests and buffer lengths: limits at
--- their ends and one past them, and which of several refusals comes first. Rests on the definitions alone.
+-- Document 01, "Request words" and "Who caused it", and asks 1, 3, 5 and 8 of document 02, as facts about literal requests and buffer lengths: limits
+-- at their ends and one past them, and which of several refusals comes first. Rests on the definitions alone.
 use mathlib.Core.Path.{_≡_}
 use mathlib.Core.List.{List, [], _∷_}
 use mathlib.Core.Option.{Option, none, some}
@@ -48,6 +48,10 @@ two w u = tried (0x3000030000200000 ∷ w ∷ u ∷ []) 45 154 3 3
 
 abbrev pub three : (first second third : ℕ) → Told
 three w u x = tried (0x3000030000300000 ∷ w ∷ u ∷ x ∷ []) 55 210 3 3
+
+-- Method 4, n = 2, of one edge: with buffers just long enough, and no places for parents.
+abbrev pub every : (word : ℕ) → Told
+every w = tried (0x4000020000100000 ∷ w ∷ []) 19 104 4 0
 
 -- Method 5, n = 2, source 0, of one edge and a destination, and of two edges: with buffers just long enough.
 abbrev pub aimed : (edge destination : ℕ) → Told
@@ -107,6 +111,22 @@ pub record Facts : Type 0 where
       × (tried (0x3000020000100000 ∷ 0 ∷ []) 28 55 1 2 ≡ byNumber 8)
       × (tried (0x3000020000100000 ∷ 0 ∷ []) 28 55 2 1 ≡ byNumber 8)
       × (tried (0x3000020000100000 ∷ 0 ∷ []) 29 56 3 3 ≡ noRefusal)
+  -- Ask 8: "5, 6, 7 as method 1; 8 when the distances buffer is shorter than n²; the parents buffer is not looked at": one less and one more than
+  -- asked, and parents and a route of any length.
+  pub sizes4 : (tried (0x4000020000100000 ∷ []) 19 104 4 0 ≡ byNumber 5)
+      × (tried (0x4000020000100000 ∷ 0 ∷ 0 ∷ []) 19 104 4 0 ≡ byNumber 5)
+      × (tried (0x4000020000100000 ∷ 0 ∷ []) 18 104 4 0 ≡ byNumber 6)
+      × (tried (0x4000020000100000 ∷ 0 ∷ []) 19 103 4 0 ≡ byNumber 7)
+      × (tried (0x4000020000100000 ∷ 0 ∷ []) 19 104 3 0 ≡ byNumber 8)
+      × (tried (0x4000020000100000 ∷ 0 ∷ []) 19 104 3 9 ≡ byNumber 8)
+      × (tried (0x4000020000100000 ∷ 0 ∷ []) 19 104 4 0 ≡ noRefusal)
+      × (tried (0x4000020000100000 ∷ 0 ∷ []) 19 104 4 9 ≡ noRefusal)
+      × (routed (0x4000020000100000 ∷ 0 ∷ []) 19 104 4 0 9 ≡ noRefusal)
+      × (tried (0x4000020000100000 ∷ 0 ∷ []) 20 105 5 1 ≡ noRefusal)
+  -- "4 when the source field is not 0": 1, which is below n, too; and before 5.
+  pub source4 : (tried (0x4000020000100001 ∷ 0 ∷ []) 19 104 4 0 ≡ byNumber 4)
+      × (tried (0x4000020000100002 ∷ 0 ∷ []) 19 104 4 0 ≡ byNumber 4)
+      × (tried (0x4000020000100001 ∷ []) 19 104 4 0 ≡ byNumber 4)
   -- Ask 5: "5 expects m+1 words; 8 also when the route buffer is shorter than n-1": one less and one more than asked, and one yard.
   pub sizes5 : (routed (0x5000020000100000 ∷ 0 ∷ []) 21 63 2 2 1 ≡ byNumber 5)
       × (routed (0x5000020000100000 ∷ 0 ∷ 0 ∷ 0 ∷ []) 21 63 2 2 1 ≡ byNumber 5)
@@ -117,21 +137,25 @@ pub record Facts : Type 0 where
       × (routed (0x5000020000100000 ∷ 0 ∷ 0 ∷ []) 21 63 2 2 0 ≡ byNumber 8)
       × (routed (0x5000020000100000 ∷ 0 ∷ 0 ∷ []) 22 64 3 3 2 ≡ noRefusal)
       × (routed (0x5000010000000000 ∷ 0 ∷ []) 13 10 1 1 0 ≡ noRefusal)
-  -- Methods 1's, 3's and 5's "log is one word longer" than the plan, at the limits; method 2's is not.
+  -- Methods 1's, 3's, 4's and 5's "log is one word longer" than the plan, at the limits; method 2's is not.
   pub logs : (logLengthOf (headerOf 0x100020000800001F) ≡ 1060837)
       × (logLengthOf (headerOf 0x200020000000001F) ≡ 44227)
       × (logLengthOf (headerOf 0x300020000800001F) ≡ 437222)
+      × (logLengthOf (headerOf 0x4000200008000000) ≡ 521372)
       × (logLengthOf (headerOf 0x500020000800001F) ≡ 1072197)
-  -- What a caller is told to lend: the most of each method; a second word is not looked at. And no header word, a source that is not below n.
+  -- What a caller is told to lend: the most of each method; a second word is not looked at. And no header word, a source that is not below
+  -- n, and one that is not 0 in method 4.
   pub asked : (sizesTold (0x100020000800001F ∷ []) ≡ asking (lengths 488 1060837 32 32 0))
       × (sizesTold (0x200020000000001F ∷ 0 ∷ []) ≡ asking (lengths 1190 44227 32 32 0))
       × (sizesTold (0x300020000800001F ∷ []) ≡ asking (lengths 8874 437222 32 32 0))
+      × (sizesTold (0x4000200008000000 ∷ []) ≡ asking (lengths 1510 521372 1024 0 0))
       × (sizesTold (0x500020000800001F ∷ []) ≡ asking (lengths 552 1072197 32 32 31))
       × (sizesTold [] ≡ byNumber 1)
       × (sizesTold (0x1000200008000020 ∷ []) ≡ byNumber 4)
+      × (sizesTold (0x4000200008000001 ∷ []) ≡ byNumber 4)
   -- "Order: 1 to 8 by number, then input words": requests that would meet two neighbours, or all, meet the lower.
   pub order : (tried [] 0 0 0 0 ≡ byNumber 1)
-      × (tried (0x4000210008100021 ∷ []) 0 0 0 0 ≡ byNumber 1)
+      × (tried (0x6000210008100021 ∷ []) 0 0 0 0 ≡ byNumber 1)
       × (tried (0x1000210008100021 ∷ []) 0 0 0 0 ≡ byNumber 2)
       × (tried (0x1000020008100002 ∷ []) 0 0 0 0 ≡ byNumber 3)
       × (tried (0x1000020000100002 ∷ []) 17 48 2 2 ≡ byNumber 4)
@@ -159,8 +183,21 @@ pub record Facts : Type 0 where
       × (sorted 0x00000000FA0A1EFF ≡ atPlace 11 0)
       × (sorted 0x0000000005F5E101 ≡ atPlace 11 0)
       × (sorted 0x0202000105F5E101 ≡ atPlace 10 0)
+  -- Method 4's lane words are method 1's.
+  pub every-edge : (every 0x0101000000000000 ≡ noRefusal)
+      × (every 0x0000000100000000 ≡ atPlace 10 0)
+      × (every 0x0000800000000000 ≡ atPlace 10 0)
+      × (every 0x0200000000000000 ≡ atPlace 13 0)
+      × (every 0x0002000000000000 ≡ atPlace 14 0)
+      × (every 0x00000000FA0A1F00 ≡ noRefusal)
+      × (every 0x00000000FA0A1EFF ≡ atPlace 11 0)
+      × (every 0x0000000005F5E100 ≡ noRefusal)
+      × (every 0x0000000005F5E101 ≡ atPlace 11 0)
+      × (every 0x0202000105F5E101 ≡ atPlace 10 0)
+      × (every 0x0202000005F5E101 ≡ atPlace 13 0)
+      × (every 0x0002000005F5E101 ≡ atPlace 14 0)
   -- "15 when a lane's to-yard is below the one before it, with the place of that lane": the one before, and not the first; an equal one is not
-  -- below; from-yards in any order; and in method 1 any order.
+  -- below; from-yards in any order; and in methods 1 and 4 any order.
   pub order3 : (two 0x0000000000000000 0x0002000000000000 ≡ noRefusal)
       × (two 0x0201000000000000 0x0001000000000000 ≡ noRefusal)
       × (two 0x0001000000000000 0x0000000000000000 ≡ atPlace 15 1)
@@ -168,6 +205,7 @@ pub record Facts : Type 0 where
       × (three 0x0000000000000000 0x0002000000000000 0x0001000000000000 ≡ atPlace 15 2)
       × (three 0x0001000000000000 0x0000000000000000 0x0000000100000000 ≡ atPlace 15 1)
       × (tried (0x1000030000200000 ∷ 0x0002000000000000 ∷ 0x0001000000000000 ∷ []) 23 174 3 3 ≡ noRefusal)
+      × (tried (0x4000030000200000 ∷ 0x0002000000000000 ∷ 0x0001000000000000 ∷ []) 30 256 9 0 ≡ noRefusal)
   -- "tested after its price": a lane out of order with each other fault.
   pub order-last : (two 0x0002000000000000 0x0001000100000000 ≡ atPlace 10 1)
       × (two 0x0002000000000000 0x0301000000000000 ≡ atPlace 13 1)
@@ -198,5 +236,6 @@ pub record Facts : Type 0 where
       × (tried (0x1000020000200000 ∷ 0 ∷ 0x0200000000000000 ∷ []) 20 85 2 2 ≡ atPlace 13 1)
       × (tried (0x1000020000200000 ∷ 0 ∷ 0x0002000000000000 ∷ []) 20 85 2 2 ≡ atPlace 14 1)
       × (tried (0x1000020000200000 ∷ 0 ∷ 0x0000000005F5E101 ∷ []) 20 85 2 2 ≡ atPlace 11 1)
+      × (tried (0x4000020000200000 ∷ 0 ∷ 0x0002000000000000 ∷ []) 22 128 4 0 ≡ atPlace 14 1)
       × (tried (0x2000020000000000 ∷ 0 ∷ 0 ∷ 0x0000000100000000 ∷ 0 ∷ []) 20 67 2 2 ≡ atPlace 10 2)
       × (tried (0x2000020000000000 ∷ 0 ∷ 0 ∷ 0 ∷ 0x00000000FFFFFFFE ∷ []) 20 67 2 2 ≡ atPlace 11 3)

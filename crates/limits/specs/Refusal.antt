@@ -93,6 +93,7 @@ wordRefusal h place before w =
     ∷ entryRefusal place w
     ∷ sortedRefusal (h .vertices) place before w
     ∷ edgeRefusal (h .vertices) place w
+    ∷ edgeRefusal (h .vertices) place w
     ∷ [])
 
 -- The first refusal of words, the first of which is at `place`.
@@ -103,7 +104,7 @@ wordsRefusal h place before (w ∷ ws) = orElse (wordRefusal h place before w) (
 -- What is tested after them, and told without a place: that method 5's destination is below n (16).
 abbrev pub lastTests : Header → List ℕ → List (Bool × Refusal)
 lastTests h ws =
-    byMethod (h .method) [] ([] ∷ [] ∷ [] ∷ ((ltb (destinationIn h ws) (h .vertices), Destination) ∷ []) ∷ [])
+    byMethod (h .method) [] ([] ∷ [] ∷ [] ∷ [] ∷ ((ltb (destinationIn h ws) (h .vertices), Destination) ∷ []) ∷ [])
 
 unfoldable pub lastRefusal : Header → List ℕ → Option Refusal
 lastRefusal h ws = firstOf (lastTests h ws)

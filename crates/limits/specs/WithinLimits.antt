@@ -44,20 +44,20 @@ abbrev pub OneOf : List ℕ → (k : ℕ) → Type 0
 OneOf [] k = ⊥
 OneOf (x ∷ xs) k = (k ≡ x) ⊎ OneOf xs k
 
--- Of the header's numbers.
+-- Of the header's numbers: the source is below n, in method 4, whose every vertex is a source, 0.
 abbrev pub headerLimits : (method n m source : ℕ) → List (ℕ × Type 0)
 headerLimits method n m source =
-    (1, OneOf (1 ∷ 2 ∷ 3 ∷ 5 ∷ []) method)
+    (1, OneOf (1 ∷ 2 ∷ 3 ∷ 4 ∷ 5 ∷ []) method)
     ∷ (2, (1 ≤ n) × (n ≤ 32))
-    ∷ (3, m ≤ byMethod method 0 (128 ∷ 0 ∷ 128 ∷ 128 ∷ []))
-    ∷ (4, source < n)
+    ∷ (3, m ≤ byMethod method 0 (128 ∷ 0 ∷ 128 ∷ 128 ∷ 128 ∷ []))
+    ∷ (4, source < byMethod method n (n ∷ n ∷ n ∷ 1 ∷ n ∷ []))
     ∷ []
 
 -- The cells.
 abbrev pub cellsFigure : (method n m : ℕ) → ℕ
 cellsFigure method n m =
     byMethod method 0
-    ((3 * m + 3 * n + 8) ∷ (n * n + 5 * n + 6) ∷ (2 * (n * m) + 4 * m + 5 * n + 10) ∷ (3 * m + 5 * n + 8) ∷ [])
+    ((3 * m + 3 * n + 8) ∷ (n * n + 5 * n + 6) ∷ (2 * (n * m) + 4 * m + 5 * n + 10) ∷ (3 * m + n * n + 3 * n + 6) ∷ (3 * m + 5 * n + 8) ∷ [])
 
 -- The words of the log, the published one among them.
 abbrev pub logFigure : (method n m : ℕ) → ℕ
@@ -66,16 +66,22 @@ logFigure method n m =
     ((3 * n + 5 + m * (8 * (n * n) + 3 * n - 1))
     ∷ (n * n * n + 11 * (n * n) + 6 * n + 3)
     ∷ (3 * (n * n) + 3 * n + 6 + m * (3 * (n * n) + 10 * n - 1))
+    ∷ (3 * (n * n * n) + 5 * (n * n) + 4 * n + 28 + m * (3 * (n * n) + 6 * n))
     ∷ (3 * (n * n) + 2 * n + 5 + m * (8 * (n * n) + 5 * n))
     ∷ [])
 
--- Of how many words come after it, and of the lengths of the lent buffers: n distances and n parents, in method 5 a route of n - 1 places, too.
+-- The results of each kind: n distances and n parents, in method 4 n² distances and no parents, in method 5 a route of n - 1 places, too.
+abbrev pub resultsFigure : (method n : ℕ) → Kind → ℕ
+resultsFigure method n =
+    byMethod method (λ k. 0) (byKind n n 0 ∷ byKind n n 0 ∷ byKind n n 0 ∷ byKind (n * n) 0 0 ∷ byKind n n (n - 1) ∷ [])
+
+-- Of how many words come after it, and of the lengths of the lent buffers.
 abbrev pub sizesLimits : (method n m words : ℕ) (lent : Lengths) → List (ℕ × Type 0)
 sizesLimits method n m words lent =
-    (5, words ≡ byMethod method 0 (m ∷ n * n ∷ m ∷ (m + 1) ∷ []))
+    (5, words ≡ byMethod method 0 (m ∷ n * n ∷ m ∷ m ∷ (m + 1) ∷ []))
     ∷ (6, cellsFigure method n m ≤ lent .cells)
     ∷ (7, logFigure method n m ≤ lent .log)
-    ∷ (8, (k : Kind) → byMethod method (λ k. 0) (byKind n n 0 ∷ byKind n n 0 ∷ byKind n n 0 ∷ byKind n n (n - 1) ∷ []) k ≤ roomFor lent k)
+    ∷ (8, (k : Kind) → resultsFigure method n k ≤ roomFor lent k)
     ∷ []
 
 -- 1 is told of a missing header word, too.
@@ -110,7 +116,7 @@ entryLimits word =
 abbrev pub wordLimits : (method n before word : ℕ) → List (ℕ × Type 0)
 wordLimits method n before word =
     byMethod method []
-    (edgeLimits n word [] ∷ entryLimits word ∷ edgeLimits n word (orderLimits before word) ∷ edgeLimits n word [] ∷ [])
+    (edgeLimits n word [] ∷ entryLimits word ∷ edgeLimits n word (orderLimits before word) ∷ edgeLimits n word [] ∷ edgeLimits n word [] ∷ [])
 
 -- Of a request's word at a place, counted from the word after the header. Before the first word stands 0, whose to-vertex is above none.
 abbrev pub limitsAt : (request : List ℕ) (place : ℕ) → List (ℕ × Type 0)
@@ -119,7 +125,7 @@ limitsAt request place =
 
 -- Method 5: its destination is below n. It is told without a place, after the words that have one.
 abbrev pub lastOf : (method n destination : ℕ) → List (ℕ × Type 0)
-lastOf method n destination = byMethod method [] ([] ∷ [] ∷ [] ∷ ((16, destination < n) ∷ []) ∷ [])
+lastOf method n destination = byMethod method [] ([] ∷ [] ∷ [] ∷ [] ∷ ((16, destination < n) ∷ []) ∷ [])
 
 abbrev pub lastLimits : (request : List ℕ) → List (ℕ × Type 0)
 lastLimits request =

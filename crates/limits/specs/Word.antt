@@ -1,5 +1,5 @@
--- The words after a request's header (document 01, "Request words"), by their fields. In methods 1, 3 and 5 an edge (lane) a word: from 8 bits,
--- to 8, spare 16, weight (price) 32; in method 2 an entry of the table a word: spare 32, weight 32; in method 5 one word more, the destination
+-- The words after a request's header (document 01, "Request words"), by their fields. In methods 1, 3, 4 and 5 an edge (lane) a word: from 8
+-- bits, to 8, spare 16, weight (price) 32; in method 2 an entry of the table a word: spare 32, weight 32; in method 5 one word more, the destination
 -- (document 02, ask 5). Rests on bit fields and two's complement.
 use mathlib.Core.List.{List, [], _∷_}
 use Prim.Native.Nat.{ℕ, _*_}
@@ -13,7 +13,7 @@ use Rattle.plans.specs.Limits.{byMethod}
 
 -- How many have a place: an edge's or an entry's each.
 abbrev pub placedCount : (method n m : ℕ) → ℕ
-placedCount method n m = byMethod method 0 (m ∷ n * n ∷ m ∷ m ∷ [])
+placedCount method n m = byMethod method 0 (m ∷ n * n ∷ m ∷ m ∷ m ∷ [])
 
 abbrev pub placedWords : Header → List ℕ → List ℕ
 placedWords h ws = take (placedCount (h .method) (h .vertices) (h .edges)) ws

@@ -1,2 +1,3 @@
 pub mod Repeated
 pub mod Left
+pub mod Methods

@@ -5,7 +5,10 @@ ghost use mathlib.Core.Path.{_≡_};
 ghost use Prim.Native.Nat.{_+_, _*_, _<_, _≤_};
 ghost use lib.ListN.{length};
 ghost use Rattle.text.specs.Text.{Put};
-ghost use Rattle.printing.specs.Texts.{distanceText, parentText, listedText, rowsText, stepText, stepsText, routeText, wordsText};
+ghost use Rattle.plans.specs.Blocks.{flat};
+ghost use Rattle.plans.specs.Plan.{Accepted};
+ghost use Rattle.printing.specs.Texts.{distanceText, parentText, yardText, pairText, leftOut, listedText, rowsText, stepText, stepsText, routeText, wordsText};
+ghost use Rattle.lines.specs.Rows.{yardAt, pairsText};
 
 // ---- results
 
@@ -29,12 +32,19 @@ fn put_parent(buffer: &mut [u8], at: usize, parent: i64) -> usize
     text::put_signed(buffer, at, parent)
 }
 
-// `yard distance parent`; nothing for an unreached vertex, but with `all`.
-fn put_row(buffer: &mut [u8], at: usize, all: bool, v: u64, distance: i64, parent: i64) -> usize
-    requires { ⌜ at + 65 ≤ length (now buffer) ⌝ }
-    ensures { λ r. ⌜ Put 65 (listedText all v distance parent) (now (buffer .entry)) (now (buffer .exit)) at r ⌝ }
+// Whether a vertex has no line.
+fn left_out(all: bool, distance: i64) -> bool
+    ensures { λ r. ⌜ r ≡ leftOut all distance ⌝ }
 {
-    if !all && distance == plans::FAR {
+    !all && distance == plans::FAR
+}
+
+// `yard distance parent`, where the yard is listed.
+fn put_yard(buffer: &mut [u8], at: usize, all: bool, v: u64, distance: i64, parent: i64) -> usize
+    requires { ⌜ at + 65 ≤ length (now buffer) ⌝ }
+    ensures { λ r. ⌜ Put 65 (listedText all distance (yardText v distance parent)) (now (buffer .entry)) (now (buffer .exit)) at r ⌝ }
+{
+    if left_out(all, distance) {
         return at;
     }
     let one = text::put_number(buffer, at, v);
@@ -45,8 +55,24 @@ fn put_row(buffer: &mut [u8], at: usize, all: bool, v: u64, distance: i64, paren
     text::put_byte(buffer, five, b'\n')
 }
 
-// A row for each of the first `count` vertices; with `all` or not.
-pub fn put_rows(
+// `from to distance`, where the pair is listed.
+fn put_pair(buffer: &mut [u8], at: usize, all: bool, from: u64, to: u64, distance: i64) -> usize
+    requires { ⌜ at + 65 ≤ length (now buffer) ⌝ }
+    ensures { λ r. ⌜ Put 65 (listedText all distance (pairText from to distance)) (now (buffer .entry)) (now (buffer .exit)) at r ⌝ }
+{
+    if left_out(all, distance) {
+        return at;
+    }
+    let one = text::put_number(buffer, at, from);
+    let two = text::put_byte(buffer, one, b' ');
+    let three = text::put_number(buffer, two, to);
+    let four = text::put_byte(buffer, three, b' ');
+    let last = put_distance(buffer, four, distance);
+    text::put_byte(buffer, last, b'\n')
+}
+
+// One for each of the first `count` vertices.
+fn put_yards(
     buffer: &mut [u8],
     at: usize,
     all: bool,
@@ -55,15 +81,77 @@ pub fn put_rows(
     parents: &[i64],
 ) -> usize
     requires { ⌜ (at + 65 * count ≤ length (now buffer)) × (count ≤ length (now distances)) × (count ≤ length (now parents)) ⌝ }
-    ensures { λ r. ⌜ Put (65 * count) (rowsText all count (now (distances .entry)) (now (parents .entry))) (now (buffer .entry)) (now (buffer .exit)) at r ⌝ }
+    ensures { λ r. ⌜ Put (65 * count) (flat count (yardAt all (now (distances .entry)) (now (parents .entry)))) (now (buffer .entry)) (now (buffer .exit)) at r ⌝ }
 {
     let mut next = at;
     let mut v: usize = 0;
     while v < count {
-        next = put_row(buffer, next, all, v as u64, distances[v], parents[v]);
+        next = put_yard(buffer, next, all, v as u64, distances[v], parents[v]);
         v += 1;
     }
     next
+}
+
+// The row of one source in a table of `n` rows.
+fn put_pairs(
+    buffer: &mut [u8],
+    at: usize,
+    all: bool,
+    from: usize,
+    n: usize,
+    distances: &[i64],
+) -> usize
+    requires { ⌜ (at + 65 * n ≤ length (now buffer)) × (from * n + n ≤ length (now distances)) ⌝ }
+    ensures { λ r. ⌜ Put (65 * n) (pairsText all n (now (distances .entry)) from) (now (buffer .entry)) (now (buffer .exit)) at r ⌝ }
+{
+    let first = from * n;
+    let mut next = at;
+    let mut to: usize = 0;
+    while to < n {
+        next = put_pair(
+            buffer,
+            next,
+            all,
+            from as u64,
+            to as u64,
+            distances[first + to],
+        );
+        to += 1;
+    }
+    next
+}
+
+// A row for each of `n` sources.
+fn put_table(buffer: &mut [u8], at: usize, all: bool, n: usize, distances: &[i64]) -> usize
+    requires { ⌜ (at + 65 * 1024 ≤ length (now buffer)) × (n ≤ 32) × (length (now distances) ≡ 1024) ⌝ }
+    ensures { λ r. ⌜ Put (65 * 32 * n) (flat n (pairsText all n (now (distances .entry)))) (now (buffer .entry)) (now (buffer .exit)) at r ⌝ }
+{
+    let mut next = at;
+    let mut from: usize = 0;
+    while from < n {
+        next = put_pairs(buffer, next, all, from, n, distances);
+        from += 1;
+    }
+    next
+}
+
+// The results of a run but its route: in method 4 every pair, in every other method every yard.
+pub fn put_rows(
+    buffer: &mut [u8],
+    at: usize,
+    all: bool,
+    h: Header,
+    distances: &[i64],
+    parents: &[i64],
+) -> usize
+    requires { ⌜ Accepted h × (at + 65 * 1024 ≤ length (now buffer)) × (length (now distances) ≡ 1024) × (length (now parents) ≡ 32) ⌝ }
+    ensures { λ r. ⌜ Put (65 * 1024) (rowsText all h (now (distances .entry)) (now (parents .entry))) (now (buffer .entry)) (now (buffer .exit)) at r ⌝ }
+{
+    let n = h.vertices as usize;
+    if h.method == 4 {
+        return put_table(buffer, at, all, n, distances);
+    }
+    put_yards(buffer, at, all, n, distances, parents)
 }
 
 // A blank and the number of an edge; nothing for -1.

@@ -1,7 +1,7 @@
--- A region that is filled place by place, upward: for the first time, over what it held, or row by row.
+-- A region that is filled place by place, upward: for the first time, over what it held, or row by row, for the first time or over what it held.
 -- Rests on lists' Test.
-use mathlib.Core.Path.{_≡_, sym, subst, _∙_}
-use mathlib.Core.Bool.{cond}
+use mathlib.Core.Path.{_≡_, sym, ap, ap₂, subst, _∙_}
+use mathlib.Core.Bool.{cond, _&&_}
 use Prim.Native.Nat.{ℕ, suc, _+_, _*_, _/_, _%_, _<_, _≤_}
 use native.Mathlib.Nat.{not-suc-le-zero}
 use native.Mathlib.Omega.{arith}
@@ -69,6 +69,11 @@ module _ {X : Type 0} where
       → (v : ℕ) → v < suc k → cond (eqb k v) z (cell v) ≡ new v
   fill {new = new} k = one-more (λ v x. x ≡ new v) k
 
+  -- The same, where y was written there before z.
+  pub fill-over : {cell new : ℕ → X} (k : ℕ) (y : X) {z : X} → z ≡ new k → ((v : ℕ) → v < k → cell v ≡ new v)
+      → (v : ℕ) → v < suc k → cond (eqb k v) z (cond (eqb k v) y (cell v)) ≡ new v
+  fill-over k y e h = fill k e (λ v l. rw (ne-eqb k v (omega arith)) (h v l))
+
 -- ---- a region of n places that held `old`, filled anew
 
 -- The places below k are done.
@@ -90,21 +95,69 @@ module _ {X : Type 0} {n : ℕ} {new old cell : ℕ → X} where
 
 -- ---- a table of rows of n places, filled row by row: place v of row i is i * n + v
 
+-- A place is that of one row, and one place of it.
+one-entry : {n : ℕ} (i v j w : ℕ) → v < n → w < n → i * n + v ≡ j * n + w → (i ≡ j) × (v ≡ w)
+one-entry {n} i v j w l k e = (
+  sym (digits-div i l) ∙ ap (λ p. p / n) e ∙ digits-div j k,
+  sym (digits-mod i l) ∙ ap (λ p. p % n) e ∙ digits-mod j k,
+)
+
+pub entry-same : {n : ℕ} (i v j w : ℕ) → v < n → w < n → eqb (i * n + v) (j * n + w) ≡ (eqb i j && eqb v w)
+entry-same {n} i v j w l k =
+    by-test (eqb (i * n + v) (j * n + w))
+    (λ e. let (a, b) = one-entry i v j w l k (eqb-true (i * n + v) (j * n + w) e) in rw (e, eq-eqb i j a, eq-eqb v w b))
+    (λ e.
+    by-test (eqb i j)
+    (λ p.
+    let apart : v ≡ w → ⊥ = λ q. eqb-false (i * n + v) (j * n + w) e (ap₂ (λ x y. x * n + y) (eqb-true i j p) q) in
+    rw (e, p, ne-eqb v w apart))
+    (λ p. rw (e, p)))
+
 -- The rows below i are done, and of row i the places below v.
 pub record Rows {X : Type 0} (n i v : ℕ) (new : ℕ → ℕ → X) (cell : ℕ → X) : Type 0 where
-  pub done : (p : ℕ) → p < i * n + v → cell p ≡ new (p / n) (p % n)
+  pub done : (j w : ℕ) → w < n → j * n + w < i * n + v → cell (j * n + w) ≡ new j w
 
 pub rows-none : {X : Type 0} {n : ℕ} {new : ℕ → ℕ → X} {cell : ℕ → X} → Rows n 0 0 new cell
-rows-none = record { done = λ p l. absurd (omega arith) }
+rows-none = record { done = λ j w k l. absurd (omega arith) }
 
 module _ {X : Type 0} {n i : ℕ} {new : ℕ → ℕ → X} {cell : ℕ → X} where
   pub rows-place : (v : ℕ) {z : X} → v < n → z ≡ new i v → Rows n i v new cell
       → Rows n i (suc v) new (λ p. cond (eqb (i * n + v) p) z (cell p))
-  rows-place v l e h =
-      record { done = λ p k. fill (i * n + v) (rw (digits-div i l, digits-mod i l) e) (h .done) p (omega arith) }
+  rows-place v {z} l e h =
+      record {
+        done = λ j w k less.
+            by-test (eqb (i * n + v) (j * n + w))
+            (λ q.
+            let (a, b) = one-entry i v j w l k (eqb-true (i * n + v) (j * n + w) q) in
+            rw q (e ∙ ap₂ new a b))
+            (λ q. rw q (h .done j w k (omega (arith, eqb-false (i * n + v) (j * n + w) q))));
+      }
 
   pub rows-next : Rows n i n new cell → Rows n (suc i) 0 new cell
-  rows-next h = record { done = λ p k. h .done p (omega arith) }
+  rows-next h = record { done = λ j w k l. h .done j w k (omega arith) }
 
   pub rows-at : Rows n i 0 new cell → (j v : ℕ) → j < i → v < n → cell (j * n + v) ≡ new j v
-  rows-at h j v l k = h .done (j * n + v) (omega (arith, digits-lt l k)) ∙ rw (digits-div j k, digits-mod j k)
+  rows-at h j v l k = h .done j v k (omega (arith, digits-lt l k))
+
+-- ---- a table of n rows of n places that held `old`, filled anew
+
+-- The rows below i are done, and of row i the places below v.
+pub record Rewritten {X : Type 0} (n i v : ℕ) (new old : ℕ → ℕ → X) (cell : ℕ → X) : Type 0 where
+  pub filled : Rows n i v new cell
+  pub left : (j w : ℕ) → j < n → w < n → i * n + v ≤ j * n + w → cell (j * n + w) ≡ old j w
+
+module _ {X : Type 0} {n : ℕ} {new old : ℕ → ℕ → X} {cell : ℕ → X} where
+  pub rewrite-none : ((j w : ℕ) → j < n → w < n → cell (j * n + w) ≡ old j w) → Rewritten n 0 0 new old cell
+  rewrite-none h = record { filled = rows-none; left = λ j w l k _. h j w l k }
+
+  module _ {i : ℕ} where
+    pub rewrite-place : (v : ℕ) {z : X} → i < n → v < n → (cell (i * n + v) ≡ old i v → z ≡ new i v) → Rewritten n i v new old cell
+        → Rewritten n i (suc v) new old (λ p. cond (eqb (i * n + v) p) z (cell p))
+    rewrite-place v l k f h =
+        record {
+          filled = rows-place v k (f (h .left i v l k (omega arith))) (h .filled);
+          left = λ j w a b g. rw (ne-eqb (i * n + v) (j * n + w) (omega arith)) (h .left j w a b (omega arith));
+        }
+
+    pub rewrite-next : Rewritten n i n new old cell → Rewritten n (suc i) 0 new old cell
+    rewrite-next h = record { filled = rows-next (h .filled); left = λ j w a b g. h .left j w a b (omega arith) }

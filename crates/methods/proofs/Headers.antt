@@ -10,7 +10,7 @@ use Rattle.machine.specs.Log.{cellsAfter}
 use Rattle.plans.specs.declared.Header.{Header}
 use Rattle.plans.specs.Limits.{far}
 use Rattle.plans.specs.Plan.{Accepted, instructionsOf, planOf}
-use Rattle.plans.proofs.Headers.{edges-small, instructions-one, instructions-two, instructions-three, instructions-five}
+use Rattle.plans.proofs.Headers.{edges-small, instructions-one, instructions-two, instructions-three, instructions-four, instructions-five}
 use Rattle.plans.proofs.Addresses.{fits-plan}
 use Rattle.graph.specs.Walk.{Edge, NegativeCycle}
 use Rattle.graph.specs.BellmanFord.{network}
@@ -21,13 +21,15 @@ use Rattle.methods.specs.Edges.{Places, Laid, Solved}
 use Rattle.methods.specs.Method1 as Method1
 use Rattle.methods.specs.Method2 as Method2
 use Rattle.methods.specs.Method3 as Method3
+use Rattle.methods.specs.Method4 as Method4
 use Rattle.methods.specs.Method5 as Method5
 use Rattle.methods.proofs.Words.{after-words}
 use Rattle.methods.proofs.Method1.{method1}
 use Rattle.methods.proofs.Method2.{method2}
 use Rattle.methods.proofs.Method3.{method3, by-passes}
+use Rattle.methods.proofs.Method4.{method4}
 use Rattle.methods.proofs.Method5.{method5, routed}
-use Rattle.methods.proofs.Rooms.{Wide, room1, room2, room3}
+use Rattle.methods.proofs.Rooms.{Wide, room1, room2, room3, room4}
 
 module _ (h : Header) (accepted : Accepted h) (cells : List ℤ) where
   pub after-plan : cellsAfter (drop 1 (planOf h)) cells ≡ performAll (instructionsOf h) cells
@@ -38,7 +40,7 @@ module _ (h : Header) (accepted : Accepted h) (cells : List ℤ) where
     -- For a method over private edges: what intake lays, and what the plan leaves.
     module _ (at : Places) (edge : ℕ → Edge) where
       abbrev LaidAt : Type 0
-      LaidAt = Laid at limit edge (h .vertices) (h .edges) (h .source) cells
+      LaidAt = Laid (at .inputs) limit edge (h .vertices) (h .edges) (h .source) cells
 
       abbrev SolvedAt : Type 0
       SolvedAt =
@@ -71,6 +73,13 @@ module _ (h : Header) (accepted : Accepted h) (cells : List ℤ) where
           method3 (natAbs far) limit edge (h .vertices) (h .edges) (h .source) cells room laid sorted,
           by-passes (natAbs far) limit edge (h .vertices) (h .edges) (h .source) cells room laid sorted,
         )
+
+    pub header4 : (edge : ℕ → Edge) → h .method ≡ 4 → Laid (Method4.inputs (h .vertices) (h .edges)) limit edge (h .vertices) (h .edges) 0 cells
+        → Method4.Solved (natAbs far) limit edge (h .vertices) (h .edges) cells (cellsAfter (drop 1 (planOf h)) cells)
+    header4 edge e laid =
+        rw (after-plan, instructions-four h e)
+        (method4 (natAbs far) limit edge (h .vertices) (h .edges) cells
+        (room4 (natAbs far) limit wide (h .vertices) (accepted .vertices-few)) laid)
 
     pub header5 : (edge : ℕ → Edge) (z : ℕ) → h .method ≡ 5 → LaidAt (Method5.places (h .vertices) (h .edges)) edge
         → cellAt cells (Method5.goal (h .vertices) (h .edges)) ≡ pos z → z < h .vertices

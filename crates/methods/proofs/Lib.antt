@@ -14,6 +14,8 @@ pub mod Passes
 pub mod Method1
 pub mod Routes
 pub mod Method5
+pub mod Floyd
+pub mod Method4
 pub mod Turns
 pub mod Method2
 pub mod Sweeps

@@ -37,7 +37,7 @@ module _ (L : Layout Name same) (count : ℕ) (small : L .size ≤ count) (far l
   abbrev before : Store
   before a = cellAt cells (L .place a)
 
-  module _ (laid : Laid at limit edge n m source cells) (o : Outline) (kept : Kept (L .Good) (λ z. Unit {0}) pair (pos far) n m o)
+  module _ (laid : Laid (at .inputs) limit edge n m source cells) (o : Outline) (kept : Kept (L .Good) (λ z. Unit {0}) pair (pos far) n m o)
       (R : Claim Store) (runs : Given edge m before → Runs (steps far limit) (instructions pair (pos far) n m source o start) R before) where
     abbrev at-places : List (Instruction ℕ)
     at-places = instructions (λ r p. L .place (r, p)) (pos far) n m source o start
@@ -85,7 +85,7 @@ pub kept : (far : ℤ) (n m : ℕ) → Kept (layout n m .Good) (λ z. Unit {0}) 
 kept far n m = search arith
 
 module _ (far limit : ℕ) (edge : ℕ → Edge) (n m source : ℕ) (cells : List ℤ) (room : Room far limit n m)
-    (laid : Laid (places n m) limit edge n m source cells) where
+    (laid : Laid (places n m .inputs) limit edge n m source cells) where
   pub method1 : Solved (places n m) far (plan far n m source) edge n m source cells (performAll (plan far n m source) cells)
   unfolding Method1.plan
   method1 =

@@ -35,7 +35,7 @@ pub kept : (far : ℤ) (n m : ℕ) → Kept (layout n m .Good) (λ z. Unit {0}) 
 kept far n m = (search arith, (search arith, (search arith, (search arith, search arith))))
 
 module _ (far limit : ℕ) (edge : ℕ → Edge) (n m source : ℕ) (cells : List ℤ) (room : Room far limit n)
-    (laid : Laid (places n m) limit edge n m source cells) (sorted : Sorted edge m) where
+    (laid : Laid (places n m .inputs) limit edge n m source cells) (sorted : Sorted edge m) where
   abbrev final : State
   final = jacobi edge (pos far) n m source
 

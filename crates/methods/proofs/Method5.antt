@@ -40,7 +40,7 @@ pub kept : (far : ℤ) (n m : ℕ) → Kept (layout n m .Good) (λ z. Unit {0}) 
 kept far n m = (search arith, (search arith, (search arith, (search arith, (search arith, (search arith, search arith))))))
 
 module _ (far limit : ℕ) (edge : ℕ → Edge) (n m source z : ℕ) (cells : List ℤ) (room : Room far limit n m)
-    (laid : Laid (places n m) limit edge n m source cells) (aim : cellAt cells (goal n m) ≡ pos z) (there : z < n) where
+    (laid : Laid (places n m .inputs) limit edge n m source cells) (aim : cellAt cells (goal n m) ≡ pos z) (there : z < n) where
   abbrev final : State
   final = Passes.final far limit edge n m source
 

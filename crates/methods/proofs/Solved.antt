@@ -24,12 +24,12 @@ pub record Holding (at : Places) (far limit : ℕ) (plan : List (Instruction ℕ
   pub flag : cellAt left (at .verdict) ≡ bit slack
   pub dist : (v : ℕ) → v < n → cellAt left (at .dist v) ≡ st .dist v
   pub parent : (v : ℕ) → v < n → cellAt left (at .parent v) ≡ st .parent v
-  pub rest : (k : ℕ) → at .count ≤ k → cellAt left k ≡ cellAt cells k
+  pub rest : (k : ℕ) → at .inputs .count ≤ k → cellAt left k ≡ cellAt cells k
   pub long : length left ≡ length cells
   pub sums : Summed (Sum far limit) plan cells
 
 module _ (at : Places) (plan : List (Instruction ℕ)) {far limit : ℕ} {edge : ℕ → Edge} {n m source : ℕ} {cells left : List ℤ}
-    (laid : Laid at limit edge n m source cells) (fits : far + limit < 2 ^ 63) (st : State) (slack : Bool)
+    (laid : Laid (at .inputs) limit edge n m source cells) (fits : far + limit < 2 ^ 63) (st : State) (slack : Bool)
     (h : Holding at far limit plan n st slack cells left) where
   pub solved : ((slack ≡ true) ↔ NegativeCycle (network edge m) source)
       → ((slack ≡ false) ↔ ¬ NegativeCycle (network edge m) source)

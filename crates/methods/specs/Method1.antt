@@ -18,10 +18,7 @@ pub record Room (far limit n m : ℕ) : Type 0 where
 abbrev pub placesBy : (count : ℕ) (place : ℕ × ℕ → ℕ) → Places
 placesBy count place =
     record {
-      count = count;
-      from = λ i. place (from i);
-      to = λ i. place (to i);
-      weight = λ i. place (weight i);
+      inputs = record { count = count; from = λ i. place (from i); to = λ i. place (to i); weight = λ i. place (weight i) };
       dist = λ v. place (D v);
       parent = λ v. place (P v);
       verdict = place (X 7);

@@ -17,10 +17,12 @@ pub record Room (far limit n : ℕ) : Type 0 where
 abbrev pub places : (n m : ℕ) → Places
 places n m =
     record {
-      count = cellCount n m;
-      from = λ i. cell (starts n m) (from i);
-      to = λ i. cell (starts n m) (B (suc i));
-      weight = λ i. cell (starts n m) (weight i);
+      inputs = record {
+        count = cellCount n m;
+        from = λ i. cell (starts n m) (from i);
+        to = λ i. cell (starts n m) (B (suc i));
+        weight = λ i. cell (starts n m) (weight i);
+      };
       dist = λ v. cell (starts n m) (D v);
       parent = λ v. cell (starts n m) (P v);
       verdict = cell (starts n m) (X 8);

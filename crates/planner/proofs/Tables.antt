@@ -1,6 +1,6 @@
 -- The methods' lines stand for their plans: what each method shows of them, and what is then so of a header's words.
 -- Rests on the laws of tables and of plans.
-use mathlib.Core.Path.{_≡_, subst}
+use mathlib.Core.Path.{_≡_, subst, _∙_}
 use mathlib.Core.List.{List, [], _++_, map, map-append, append-nil}
 use Prim.Native.Nat.{ℕ, _^_, _<_, _≤_}
 use native.Mathlib.Omega.{arith}
@@ -15,12 +15,13 @@ use Rattle.plans.specs.Outline.{Outline, joined, start, instructions}
 use Rattle.plans.specs.Method1 as Method1
 use Rattle.plans.specs.Method2 as Method2
 use Rattle.plans.specs.Method3 as Method3
+use Rattle.plans.specs.Method4 as Method4
 use Rattle.plans.specs.Method5 as Method5
 use Rattle.plans.specs.Plan.{Accepted, instructionsOf, planOf, lengthOf}
 use Rattle.plans.proofs.Addresses.{fits-plan}
 use Rattle.plans.proofs.Blocks.{all-map}
 use Rattle.plans.proofs.Figures.{length-plan}
-use Rattle.plans.proofs.Headers.{instructions-one, instructions-two, instructions-three, instructions-five}
+use Rattle.plans.proofs.Headers.{instructions-one, instructions-two, instructions-three, instructions-four, instructions-five}
 use Rattle.plans.proofs.Outlines.{instructions-joined}
 use Rattle.rows.specs.Rows.{envOf}
 use Rattle.tables.specs.Writing.{RoomAt, Wrote, linesWords, Writable}
@@ -124,6 +125,14 @@ module _ (h : Header) (a : Accepted h) where
   pub outlined3 : h .method ≡ 3 → Outlined h (h .edges) (Method3.starts (h .vertices) (h .edges)) Method3.outline
   unfolding Method3.plan
   outlined3 e = let s = sizes h a in record { near = omega arith; is = instructions-three h e }
+
+  -- Its source is 0.
+  pub outlined4 : h .method ≡ 4 → Outlined h (h .edges) (Method4.starts (h .vertices) (h .edges)) Method4.outline
+  unfolding Method4.plan
+  outlined4 e =
+      let s = sizes h a in
+      let source0 : h .source ≡ 0 = omega (arith, rw e at (a .source-there)) in
+      record { near = omega arith; is = instructions-four h e ∙ rw source0 }
 
   pub outlined5 : h .method ≡ 5 → Outlined h (h .edges) (Method5.starts (h .vertices) (h .edges)) Method5.outline
   unfolding Method5.plan

@@ -3,6 +3,7 @@
 mod method1;
 mod method2;
 mod method3;
+mod method4;
 mod method5;
 
 use answers::Checked;
@@ -32,6 +33,7 @@ fn write_words(h: Header, plan: &mut [u64]) -> usize
         1 => method1::write(h, plan),
         2 => method2::write(h, plan),
         3 => method3::write(h, plan),
+        4 => method4::write(h, plan),
         _ => method5::write(h, plan),
     }
 }

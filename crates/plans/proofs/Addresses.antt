@@ -22,6 +22,7 @@ use Rattle.plans.specs.Outline.{fixed, at, after, entry, small, minus-on
 use Rattle.plans.specs.Method1 as Method1
 use Rattle.plans.specs.Method2 as Method2
 use Rattle.plans.specs.Method3 as Method3
+use Rattle.plans.specs.Method4 as Method4
 use Rattle.plans.specs.Method5 as Method5
 use Rattle.plans.specs.Plan.{Accepted, instructionsOf, planOf, cellsOf, Kind, resultsOf}
 use Rattle.plans.proofs.Blocks.{all-both, all-map}
@@ -103,7 +104,7 @@ Below count = Keeps (λ a. a < count) (λ z. mag z < 2 ^ 39)
 
 -- A call of `search` takes so many steps only: one for each of the outline's first parts.
 pub below-plan : (h : Header) → Accepted h → (count : ℕ) → cellsOf h ≤ count → All (Below count) (instructionsOf h)
-unfolding instructionsOf cellsOf Method1.plan Method2.plan Method3.plan Method5.plan
+unfolding instructionsOf cellsOf Method1.plan Method2.plan Method3.plan Method4.plan Method5.plan
 below-plan =
     by-method (λ h. (count : ℕ) → cellsOf h ≤ count → All (Below count) (instructionsOf h))
     (λ n m source a count l.
@@ -114,6 +115,9 @@ below-plan =
     (λ n m source a count l.
     keeps _ _ (address (Method3.starts n m)) far n m source Method3.outline
     (search arith, (search arith, (search arith, (search arith, search arith)))))
+    (λ n m a count l.
+    keeps _ _ (address (Method4.starts n m)) far n m 0 Method4.outline
+    (search arith, (search arith, (search arith, (search arith, (search arith, (search arith, (search arith, (search arith, (search arith, (search arith, (search arith, search arith))))))))))))
     (λ n m source a count l.
     keeps _ _ (address (Method5.starts n m)) far n m source Method5.outline
     (search arith, (search arith, (search arith, (search arith, (search arith, (search arith, search arith)))))))
@@ -125,6 +129,7 @@ cells-few =
     by-method (λ h. cellsOf h ≤ 8874) (λ n m source a. omega arith)
     (λ n source a. omega (arith, square-le n (omega arith)))
     (λ n m source a. omega (arith, edges-le m (a .edges-few) n 32 (a .vertices-few), a .vertices-few, a .edges-few))
+    (λ n m a. omega (arith, square-le n (a .vertices-few), a .vertices-few, a .edges-few))
     (λ n m source a. omega (arith, a .vertices-few, a .edges-few))
 
 pub results-inside : (h : Header) → Accepted h → (k : Kind) → resultsOf h k .first + resultsOf h k .count ≤ cellsOf h
@@ -134,6 +139,7 @@ results-inside =
     (λ n m source a. each-kind _ (omega arith) (omega arith) (omega arith))
     (λ n source a. each-kind _ (omega arith) (omega arith) (omega arith))
     (λ n m source a. each-kind _ (omega arith) (omega arith) (omega arith))
+    (λ n m a. each-kind _ (omega arith) (omega arith) (omega arith))
     (λ n m source a. each-kind _ (omega arith) (omega arith) (omega (arith, a .vertices-some)))
 
 pub fits-plan : (h : Header) → Accepted h → All Fits (instructionsOf h)

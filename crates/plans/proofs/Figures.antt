@@ -13,6 +13,7 @@ use Rattle.plans.specs.Outline.{start}
 use Rattle.plans.specs.Method1 as Method1
 use Rattle.plans.specs.Method2 as Method2
 use Rattle.plans.specs.Method3 as Method3
+use Rattle.plans.specs.Method4 as Method4
 use Rattle.plans.specs.Method5 as Method5
 use Rattle.plans.specs.Plan.{Accepted, instructionsOf, planOf, lengthOf, roundsOfPlan}
 use Rattle.plans.proofs.Blocks.{sum-ones}
@@ -44,12 +45,13 @@ length5 name (suc n) m source some =
     ap (λ k. k + 1) (outline-weight name far (suc n) m source (λ op. 1) Method5.outline start) ∙ simp (e, mul-sub) (omega arith)
 
 lengths : (h : Header) → Accepted h → sumOf (λ i. 1) (instructionsOf h) + 1 ≡ lengthOf h
-unfolding instructionsOf lengthOf Method2.plan sumOf
+unfolding instructionsOf lengthOf Method2.plan Method4.plan sumOf
 lengths =
     by-method (λ h. sumOf (λ i. 1) (instructionsOf h) + 1 ≡ lengthOf h)
     (λ n m source a. length1 _ n m source (a .vertices-some))
     (λ n source a. ap (λ k. k + 1) (outline-weight _ far n 0 source (λ op. 1) Method2.outline start) ∙ omega arith)
     (λ n m source a. length3 _ n m source (a .vertices-some))
+    (λ n m a. ap (λ k. k + 1) (outline-weight _ far n m 0 (λ op. 1) Method4.outline start) ∙ omega arith)
     (λ n m source a. length5 _ n m source (a .vertices-some))
 
 pub length-plan : (h : Header) → Accepted h → length (planOf h) ≡ lengthOf h
@@ -67,6 +69,10 @@ length-most =
     (λ n m source a.
     let square = square-le n (a .vertices-few) in
     omega (arith, edges-le m (a .edges-few) (3 * (n * n) + 10 * n - 1) 3391 (omega (arith, a .vertices-few)), a .vertices-few))
+    (λ n m a.
+    let square = square-le n (a .vertices-few) in
+    let cube = cube-le n (a .vertices-few) in
+    omega (arith, edges-le m (a .edges-few) (3 * (n * n) + 6 * n) 3264 (omega (arith, a .vertices-few)), a .vertices-few))
     (λ n m source a.
     let square = square-le n (a .vertices-few) in
     omega (arith, edges-le m (a .edges-few) (8 * (n * n) + 5 * n) 8352 (omega (arith, a .vertices-few)), a .vertices-few))
@@ -84,6 +90,10 @@ largest2 s = (refl, refl)
 pub largest3 : (s : ℕ) → (lengthOf (header 3 32 128 s) ≡ 437221) × (roundsOfPlan (header 3 32 128 s) ≡ 38151)
 unfolding lengthOf roundsOfPlan
 largest3 s = (refl, refl)
+
+pub largest4 : (s : ℕ) → (lengthOf (header 4 32 128 s) ≡ 521371) × (roundsOfPlan (header 4 32 128 s) ≡ 1136)
+unfolding lengthOf roundsOfPlan
+largest4 s = (refl, refl)
 
 pub largest5 : (s : ℕ) → (lengthOf (header 5 32 128 s) ≡ 1072196) × (roundsOfPlan (header 5 32 128 s) ≡ 166832)
 unfolding lengthOf roundsOfPlan

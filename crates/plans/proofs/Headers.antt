@@ -16,6 +16,7 @@ use Rattle.plans.specs.Regions.{address}
 use Rattle.plans.specs.Method1 as Method1
 use Rattle.plans.specs.Method2 as Method2
 use Rattle.plans.specs.Method3 as Method3
+use Rattle.plans.specs.Method4 as Method4
 use Rattle.plans.specs.Method5 as Method5
 use Rattle.plans.specs.Plan.{Accepted, instructionsOf, planOf}
 
@@ -47,21 +48,33 @@ module _ (P : Header → Type 0)
     (one : (n m source : ℕ) → Accepted (header 1 n m source) → P (header 1 n m source))
     (two : (n source : ℕ) → Accepted (header 2 n 0 source) → P (header 2 n 0 source))
     (three : (n m source : ℕ) → Accepted (header 3 n m source) → P (header 3 n m source))
+    (four : (n m : ℕ) → Accepted (header 4 n m 0) → P (header 4 n m 0))
     (five : (n m source : ℕ) → Accepted (header 5 n m source) → P (header 5 n m source)) where
   -- Method 2 has no edges.
   at-two : (n m source : ℕ) → Accepted (header 2 n m source) → P (header 2 n m source)
   at-two n zero source a = two n source a
   at-two n (suc m) source a = let no : ⊥ = omega (arith, a .edges-few) in absurd no
 
+  -- Method 4's source is 0.
+  at-four : (n m source : ℕ) → Accepted (header 4 n m source) → P (header 4 n m source)
+  at-four n m zero a = four n m a
+  at-four n m (suc source) a = let no : ⊥ = omega (arith, a .source-there) in absurd no
+
   pub by-method : (h : Header) → Accepted h → P h
   by-method h a =
       of-one (λ method. (n m source : ℕ) → Accepted (header method n m source) → P (header method n m source)) methods
-      (one, (at-two, (three, (five, tt)))) (h .method) (a .known) (h .vertices) (h .edges) (h .source) a
+      (one, (at-two, (three, (at-four, (five, tt))))) (h .method) (a .known) (h .vertices) (h .edges) (h .source) a
 
 pub edges-small : (h : Header) → Accepted h → h .edges ≤ 128
 edges-small =
     by-method (λ h. h .edges ≤ 128) (λ n m source a. omega (arith, a .edges-few)) (λ n source a. omega arith)
-    (λ n m source a. omega (arith, a .edges-few)) (λ n m source a. omega (arith, a .edges-few))
+    (λ n m source a. omega (arith, a .edges-few)) (λ n m a. omega (arith, a .edges-few)) (λ n m source a. omega (arith, a .edges-few))
+
+-- The source is a vertex.
+pub source-below : (h : Header) → Accepted h → h .source < h .vertices
+source-below =
+    by-method (λ h. h .source < h .vertices) (λ n m source a. a .source-there) (λ n source a. a .source-there)
+    (λ n m source a. a .source-there) (λ n m a. a .vertices-some) (λ n m source a. a .source-there)
 
 pub fields-small : (h : Header) → Accepted h
     → (h .method < 2 ^ 4) × (h .vertices < 2 ^ 20) × (h .edges < 2 ^ 20) × (h .source < 2 ^ 20)
@@ -71,7 +84,7 @@ fields-small h a =
       of-one (λ method. method < 2 ^ 4) methods (search arith) (h .method) (a .known),
       a .vertices-few,
       edges-small h a,
-      a .source-there,
+      source-below h a,
     )
 
 -- ---- the plan's instructions and words
@@ -93,6 +106,11 @@ module _ (h : Header) where
       ≡ Method3.plan (address (Method3.starts (h .vertices) (h .edges))) far (h .vertices) (h .edges) (h .source)
   unfolding instructionsOf
   instructions-three e = rw e
+
+  pub instructions-four : h .method ≡ 4
+      → instructionsOf h ≡ Method4.plan (address (Method4.starts (h .vertices) (h .edges))) far (h .vertices) (h .edges)
+  unfolding instructionsOf
+  instructions-four e = rw e
 
   pub instructions-five : h .method ≡ 5
       → instructionsOf h

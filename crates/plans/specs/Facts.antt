@@ -5,6 +5,7 @@ use mathlib.Core.List.{List, [], _∷_, _++_}
 use mathlib.Core.Option.{none, some}
 use Prim.Native.Nat.{ℕ}
 use lib.IntN.{pos, negsuc}
+use lib.ListN.{replicate}
 use lib.Signed.{_≤ℤ_}
 use Rattle.fields.specs.Fields.{signedOf, bitsOf}
 use Rattle.plans.specs.Limits.{far, mostWeight, leastWeight, noEdge}
@@ -152,6 +153,54 @@ probe1 = 0x60000D0002200017 ∷ 0x60000E0002300017 ∷ []
 abbrev pub test3 : List ℕ
 test3 = 0x3000160000D00007 ∷ 0x6000190001600016 ∷ 0x3000160000E00008 ∷ 0x6000190001600016 ∷ []
 
+-- ---- "Ask 8" at n = 2, m = 1. Cells: from 0, to 1, price 2, D 3, C 7, R 9, Y 11, X 13.
+
+abbrev pub constants4 : List ℕ
+constants4 =
+    -- For each v SET Y+v to v. SET X to FAR, SET X+1 to FAR.
+    (0x00000B0000000000 ∷ 0x00000C0000000001 ∷ 0x00000D7FFFFFFFFF ∷ 0x00000E7FFFFFFFFF ∷ [])
+    -- 20 times ADD X+1 (X+1, X+1).
+    ++ replicate 20 0x20000E0000E0000E
+    -- SET X+2 to 0, SET X+5 to 0.
+    ++ (0x00000F0000000000 ∷ 0x0000120000000000 ∷ [])
+
+-- For each i, for each j, COPY D+in+j from X+1. For each v, COPY D+v(n+1) from X+2.
+abbrev pub start4 : List ℕ
+start4 =
+    (0x1000030000E00000 ∷ 0x1000040000E00000 ∷ 0x1000050000E00000 ∷ 0x1000060000E00000 ∷ [])
+    ++ (0x1000030000F00000 ∷ 0x1000060000F00000 ∷ [])
+
+-- For each i, for each j, ADD X+3 (C+i, R+j), LESS X+4 (X+3, D+in+j), MOVEIF D+in+j (X+4, X+3).
+abbrev pub update4 : List ℕ
+update4 =
+    (0x2000100000700009 ∷ 0x3000110001000003 ∷ 0x6000030001100010 ∷ [])
+    ++ (0x200010000070000A ∷ 0x3000110001000004 ∷ 0x6000040001100010 ∷ [])
+    ++ (0x2000100000800009 ∷ 0x3000110001000005 ∷ 0x6000050001100010 ∷ [])
+    ++ (0x200010000080000A ∷ 0x3000110001000006 ∷ 0x6000060001100010 ∷ [])
+
+-- For each v COPY C+v from X+1, EQUAL X+4 (from l, Y+v), MOVEIF C+v (X+4, X+2), COPY R+v from X+1, EQUAL X+4 (to l, Y+v), MOVEIF R+v (X+4, price l).
+abbrev pub lane4 : List ℕ
+lane4 =
+    (0x1000070000E00000 ∷ 0x400011000000000B ∷ 0x600007000110000F ∷ 0x1000090000E00000 ∷ 0x400011000010000B ∷ 0x6000090001100002 ∷ [])
+    ++ (0x1000080000E00000 ∷ 0x400011000000000C ∷ 0x600008000110000F ∷ 0x10000A0000E00000 ∷ 0x400011000010000C ∷ 0x60000A0001100002 ∷ [])
+
+-- Stages 0 and 1: for each v COPY C+v from D+vn+k, COPY R+v from D+kn+v.
+abbrev pub column0 : List ℕ
+column0 = 0x1000070000300000 ∷ 0x1000090000300000 ∷ 0x1000080000500000 ∷ 0x10000A0000400000 ∷ []
+
+abbrev pub column1 : List ℕ
+column1 = 0x1000070000400000 ∷ 0x1000090000500000 ∷ 0x1000080000600000 ∷ 0x10000A0000600000 ∷ []
+
+abbrev pub finish4 : List ℕ
+finish4 =
+    -- For each v LESS X+4 (D+vn+v, X+2), ADD X+5 (X+5, X+4). BOTH X+5 (X+5, X+5).
+    (0x300011000030000F ∷ 0x2000120001200011 ∷ 0x300011000060000F ∷ 0x2000120001200011 ∷ 0x5000120001200012 ∷ [])
+    -- For each i, for each j, LESS X+4 (X, D+in+j), MOVEIF D+in+j (X+4, X).
+    ++ (0x3000110000D00003 ∷ 0x600003000110000D ∷ 0x3000110000D00004 ∷ 0x600004000110000D ∷ [])
+    ++ (0x3000110000D00005 ∷ 0x600005000110000D ∷ 0x3000110000D00006 ∷ 0x600006000110000D ∷ [])
+    -- OPEN X+5.
+    ++ (0x7000000001200000 ∷ [])
+
 -- ---- "Ask 5" at n = 2, m = 2, source 1, after method 1's words but for the last. Cells: as method 1's, then Z 20, B 21, R 23.
 
 abbrev pub trace5 : List ℕ
@@ -212,36 +261,42 @@ pub record Facts : Type 0 where
   pub most2 : Accepted (headerOf 0x200020000000001F)
   pub least3 : Accepted (headerOf 0x3000010000000000)
   pub most3 : Accepted (headerOf 0x300020000800001F)
+  pub least4 : Accepted (headerOf 0x4000010000000000)
+  pub most4 : Accepted (headerOf 0x4000200008000000)
   pub least5 : Accepted (headerOf 0x5000010000000000)
   pub most5 : Accepted (headerOf 0x500020000800001F)
-  -- And one past each: method 0, 4 and 6, n = 0 and 33, m = 129, m = 1 in method 2, source = n.
+  -- And one past each: method 0 and 6, n = 0 and 33, m = 129, m = 1 in method 2, source = n, source = 1 in method 4.
   pub method0 : ¬ Accepted (headerOf 0x0000010000000000)
-  pub method4 : ¬ Accepted (headerOf 0x4000010000000000)
   pub method6 : ¬ Accepted (headerOf 0x6000010000000000)
   pub vertices0 : ¬ Accepted (headerOf 0x1000000000000000)
   pub vertices33 : ¬ Accepted (headerOf 0x1000210000000000)
   pub edges129 : ¬ Accepted (headerOf 0x1000010008100000)
   pub sorted129 : ¬ Accepted (headerOf 0x3000010008100000)
+  pub every129 : ¬ Accepted (headerOf 0x4000010008100000)
   pub routed129 : ¬ Accepted (headerOf 0x5000010008100000)
   pub edges1 : ¬ Accepted (headerOf 0x2000010000100000)
   pub source-past1 : ¬ Accepted (headerOf 0x1000200008000020)
   pub source-past2 : ¬ Accepted (headerOf 0x2000010000000001)
+  pub source-past4 : ¬ Accepted (headerOf 0x4000200008000001)
   pub source-past5 : ¬ Accepted (headerOf 0x5000200008000020)
   -- "prices reach 100,000,000 either way (in method 2 from 0 upward, or -1 as before)"
   pub weights : (leastWeight ≡ negsuc 99999999) × (mostWeight ≡ 100000000) × (noEdge ≡ negsuc 0)
-  -- "3m+3n+8 in all", "n²+5n+6 in all", "2nm+4m+5n+10 in all", "3m+5n+8 in all": at the limits, and at the plans below.
+  -- "3m+3n+8 in all", "n²+5n+6 in all", "2nm+4m+5n+10 in all", "3m+n²+3n+6 in all", "3m+5n+8 in all": at the limits, and at the plans below.
   pub cells : (cellsOf (headerOf 0x100020000800001F) ≡ 488)
       × (cellsOf (headerOf 0x1000020000200001) ≡ 20)
       × (cellsOf (headerOf 0x200020000000001F) ≡ 1190)
       × (cellsOf (headerOf 0x2000020000000001) ≡ 20)
       × (cellsOf (headerOf 0x300020000800001F) ≡ 8874)
       × (cellsOf (headerOf 0x3000020000200001) ≡ 36)
+      × (cellsOf (headerOf 0x4000200008000000) ≡ 1510)
+      × (cellsOf (headerOf 0x4000020000100000) ≡ 19)
       × (cellsOf (headerOf 0x500020000800001F) ≡ 552)
       × (cellsOf (headerOf 0x5000020000200001) ≡ 24)
   -- "m lane words", "n × n words", "m+1 words": at the limits.
   pub words : (wordCountOf (headerOf 0x100020000800001F) ≡ 128)
       × (wordCountOf (headerOf 0x200020000000001F) ≡ 1024)
       × (wordCountOf (headerOf 0x300020000800001F) ≡ 128)
+      × (wordCountOf (headerOf 0x4000200008000000) ≡ 128)
       × (wordCountOf (headerOf 0x500020000800001F) ≡ 129)
   -- "Results: n distances and n parents", "D+v and P+v": D at 3m and P at 3m+n, D at n² and P at n²+n, D at
   -- 3m+1 and P at 3m+n+1, at the limits and at the plans below.
@@ -257,6 +312,12 @@ pub record Facts : Type 0 where
       × (resultsOf (headerOf 0x300020000800001F) parents ≡ span 417 32)
       × (resultsOf (headerOf 0x3000020000200001) distances ≡ span 7 2)
       × (resultsOf (headerOf 0x3000020000200001) parents ≡ span 9 2)
+  -- "Results: n² distances D+in+j; no parents": D at 3m, at the limits and at the plans below.
+  pub tables : (resultsOf (headerOf 0x4000200008000000) distances ≡ span 384 1024)
+      × (resultsOf (headerOf 0x4000200008000000) parents ≡ none-given)
+      × (resultsOf (headerOf 0x4000200008000000) route ≡ none-given)
+      × (resultsOf (headerOf 0x4000020000100000) distances ≡ span 3 4)
+      × (resultsOf (headerOf 0x4000020000100000) parents ≡ none-given)
   -- "D+v, P+v, and R+k to the route buffer, n-1 places": R at 3m+4n+9, at the limits, at the plans below and with one yard; and no route in
   -- other methods.
   pub routes : (resultsOf (headerOf 0x500020000800001F) distances ≡ span 384 32)
@@ -268,12 +329,14 @@ pub record Facts : Type 0 where
       × (resultsOf (headerOf 0x100020000800001F) route ≡ none-given)
       × (resultsOf (headerOf 0x200020000000001F) route ≡ none-given)
       × (resultsOf (headerOf 0x300020000800001F) route ≡ none-given)
-  -- "OPEN X+7: the verdict", "OPEN X+8: the verdict": at the plans below and at the limits; method 2 has none.
+  -- "OPEN X+7: the verdict", "OPEN X+8: the verdict", "OPEN X+5: the verdict": at the plans below and at the limits; method 2 has none.
   pub verdict : (verdictCell (headerOf 0x1000020000200001) ≡ some 19)
       × (verdictCell (headerOf 0x100020000800001F) ≡ some 487)
       × (verdictCell (headerOf 0x2000020000000001) ≡ none)
       × (verdictCell (headerOf 0x3000020000200001) ≡ some 25)
       × (verdictCell (headerOf 0x300020000800001F) ≡ some 553)
+      × (verdictCell (headerOf 0x4000020000100000) ≡ some 18)
+      × (verdictCell (headerOf 0x4000200008000000) ≡ some 1509)
       × (verdictCell (headerOf 0x5000020000200001) ≡ some 19)
       × (verdictCell (headerOf 0x500020000800001F) ≡ some 487)
   -- "Plan of method 1": the opening, n-1 passes over all i, the check over all i, OPEN X+7.
@@ -286,6 +349,9 @@ pub record Facts : Type 0 where
   pub plan3 : planOf (headerOf 0x3000020000200001)
       ≡ (0x3000020000200001 ∷ opening3) ++ prepare3 ++ bid0 ++ sweep0 ++ bid1 ++ sweep1 ++ take3 ++ bid0 ++ probe0 ++ bid1 ++ probe1 ++ test3
       ++ (0x7000000001900000 ∷ [])
+  -- "Ask 8": constants, start, lanes, stages, circles, marks, OPEN X+5.
+  pub plan4 : planOf (headerOf 0x4000020000100000)
+      ≡ (0x4000020000100000 ∷ constants4) ++ start4 ++ lane4 ++ update4 ++ column0 ++ update4 ++ column1 ++ update4 ++ finish4
   -- "Ask 5": "Opening, passes and check of method 1, word for word", the predecessors, the route, OPEN X+7.
   pub plan5 : planOf (headerOf 0x5000020000200001)
       ≡ (0x5000020000200001 ∷ opening1) ++ gather0 ++ relax0 ++ gather1 ++ relax1 ++ gather0 ++ check0 ++ gather1 ++ check1 ++ trace5 ++ follow5

@@ -5,6 +5,7 @@ pub mod Outline
 pub mod Method1
 pub mod Method2
 pub mod Method3
+pub mod Method4
 pub mod Method5
 pub mod Plan
 pub mod Facts

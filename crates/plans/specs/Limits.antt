@@ -24,7 +24,7 @@ found (x ∷ xs) k other (y ∷ row) = cond (eqb k x) y (found xs k other row)
 
 -- The methods that there are.
 abbrev pub methods : List ℕ
-methods = 1 ∷ 2 ∷ 3 ∷ 5 ∷ []
+methods = 1 ∷ 2 ∷ 3 ∷ 4 ∷ 5 ∷ []
 
 abbrev pub knownMethod : (method : ℕ) → Bool
 knownMethod method = isIn methods method
@@ -38,7 +38,11 @@ abbrev pub mostVertices : ℕ
 mostVertices = 32
 
 abbrev pub mostEdges : (method : ℕ) → ℕ
-mostEdges method = byMethod method 0 (128 ∷ 0 ∷ 128 ∷ 128 ∷ [])
+mostEdges method = byMethod method 0 (128 ∷ 0 ∷ 128 ∷ 128 ∷ 128 ∷ [])
+
+-- The header's source is one of this many: any of n vertices; in method 4, whose every vertex is a source, 0.
+abbrev pub sourceCount : (method n : ℕ) → ℕ
+sourceCount method n = byMethod method n (n ∷ n ∷ n ∷ 1 ∷ n ∷ [])
 
 -- Weights (prices): an edge's from the least to the greatest, an entry's from 0, or -1, which stands for no edge.
 abbrev pub mostWeight : ℕ

@@ -10,11 +10,12 @@ use Rattle.machine.specs.Instruction.{Instruction}
 use Rattle.machine.specs.Word.{packed, encode}
 use Rattle.plans.specs.declared.Header.{Header}
 use Rattle.plans.specs.declared.Span.{Span}
-use Rattle.plans.specs.Limits.{far, byMethod, knownMethod, mostVertices, mostEdges}
+use Rattle.plans.specs.Limits.{far, byMethod, knownMethod, mostVertices, mostEdges, sourceCount}
 use Rattle.plans.specs.Regions.{address, cell}
 use Rattle.plans.specs.Method1 as Method1
 use Rattle.plans.specs.Method2 as Method2
 use Rattle.plans.specs.Method3 as Method3
+use Rattle.plans.specs.Method4 as Method4
 use Rattle.plans.specs.Method5 as Method5
 
 -- Header word: method 4 bits, n 20, m 20, source 20.
@@ -31,11 +32,11 @@ pub record Accepted (h : Header) : Type 0 where
   pub vertices-some : 0 < h .vertices
   pub vertices-few : h .vertices ≤ mostVertices
   pub edges-few : h .edges ≤ mostEdges (h .method)
-  pub source-there : h .source < h .vertices
+  pub source-there : h .source < sourceCount (h .method) (h .vertices)
 
 -- How many words of a request follow the header; method 5's last is the destination.
 unfoldable pub wordCountOf : Header → ℕ
-wordCountOf h = byMethod (h .method) 0 (h .edges ∷ (h .vertices * h .vertices) ∷ h .edges ∷ (h .edges + 1) ∷ [])
+wordCountOf h = byMethod (h .method) 0 (h .edges ∷ (h .vertices * h .vertices) ∷ h .edges ∷ h .edges ∷ (h .edges + 1) ∷ [])
 
 unfoldable pub instructionsOf : Header → List (Instruction ℕ)
 instructionsOf h =
@@ -43,6 +44,7 @@ instructionsOf h =
     (Method1.plan (address (Method1.starts (h .vertices) (h .edges))) far (h .vertices) (h .edges) (h .source)
     ∷ Method2.plan (address (Method2.starts (h .vertices))) far (h .vertices) (h .source)
     ∷ Method3.plan (address (Method3.starts (h .vertices) (h .edges))) far (h .vertices) (h .edges) (h .source)
+    ∷ Method4.plan (address (Method4.starts (h .vertices) (h .edges))) far (h .vertices) (h .edges)
     ∷ Method5.plan (address (Method5.starts (h .vertices) (h .edges))) far (h .vertices) (h .edges) (h .source)
     ∷ [])
 
@@ -55,7 +57,7 @@ unfoldable pub cellsOf : Header → ℕ
 cellsOf h =
     let n = h .vertices in
     let m = h .edges in
-    byMethod (h .method) 0 (Method1.cellCount n m ∷ Method2.cellCount n ∷ Method3.cellCount n m ∷ Method5.cellCount n m ∷ [])
+    byMethod (h .method) 0 (Method1.cellCount n m ∷ Method2.cellCount n ∷ Method3.cellCount n m ∷ Method4.cellCount n m ∷ Method5.cellCount n m ∷ [])
 
 -- The kinds of results, a lent buffer for each.
 pub data Kind : Type 0 where
@@ -88,6 +90,7 @@ resultsOf h =
     (byKind (span (cell (Method1.starts n m) (Method1.D 0)) n) (span (cell (Method1.starts n m) (Method1.P 0)) n) none-given
     ∷ byKind (span (cell (Method2.starts n) (Method2.D 0)) n) (span (cell (Method2.starts n) (Method2.P 0)) n) none-given
     ∷ byKind (span (cell (Method3.starts n m) (Method3.D 0)) n) (span (cell (Method3.starts n m) (Method3.P 0)) n) none-given
+    ∷ byKind (span (cell (Method4.starts n m) (Method4.D 0)) (n * n)) none-given none-given
     ∷ byKind (span (cell (Method5.starts n m) (Method5.D 0)) n) (span (cell (Method5.starts n m) (Method5.P 0)) n)
     (span (cell (Method5.starts n m) (Method5.R 0)) (n - 1))
     ∷ [])
@@ -101,6 +104,7 @@ verdictCell h =
     (some (cell (Method1.starts n m) (Method1.X 7))
     ∷ none
     ∷ some (cell (Method3.starts n m) (Method3.X 8))
+    ∷ some (cell (Method4.starts n m) (Method4.X 5))
     ∷ some (cell (Method5.starts n m) (Method5.X 7))
     ∷ [])
 
@@ -118,6 +122,7 @@ lengthOf h =
     ((3 * n + 4 + m * (8 * (n * n) + 3 * n - 1))
     ∷ (n * n * n + 11 * (n * n) + 6 * n + 3)
     ∷ (3 * (n * n) + 3 * n + 5 + m * (3 * (n * n) + 10 * n - 1))
+    ∷ (3 * (n * n * n) + 5 * (n * n) + 4 * n + 27 + m * (3 * (n * n) + 6 * n))
     ∷ (3 * (n * n) + 2 * n + 4 + m * (8 * (n * n) + 5 * n))
     ∷ [])
 
@@ -130,5 +135,6 @@ roundsOfPlan h =
     (cond (eqb m 0) 2 (m * (n * n + 9 * n - 9) + n + 16)
     ∷ (9 * (n * n) + 13 * n + 1)
     ∷ cond (eqb m 0) (8 * n + 1) (9 * (n * m) + n * n + 8 * n + 7)
+    ∷ cond (eqb m 0) (7 * n + 9) (7 * n + 7 * m + 16)
     ∷ cond (eqb m 0) (max 2 (n * n + 5 * n - 5)) (m * ((n - 1) * (n + 9)) + max (m * n + n + 16) (m + n * n + 5 * n + 1))
     ∷ [])

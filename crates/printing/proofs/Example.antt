@@ -16,6 +16,7 @@ use Rattle.plans.specs.Outline.{instructions}
 use Rattle.plans.specs.Method1 as Method1
 use Rattle.plans.specs.Method2 as Method2
 use Rattle.plans.specs.Method3 as Method3
+use Rattle.plans.specs.Method4 as Method4
 use Rattle.plans.specs.Method5 as Method5
 use Rattle.plans.specs.Plan.{instructionsOf, planOf, wordCountOf, cellsOf, resultsOf, lengthOf, verdictCell}
 use Rattle.headers.specs.Refusal.{headerRefusal}
@@ -23,7 +24,8 @@ use Rattle.limits.specs.Word.{weightOf}
 use Rattle.limits.specs.Refusal.{logLengthOf, sizesRefusal, inRange, edgeRefusal, sortedRefusal, entryRefusal, wordRefusal, wordsRefusal, lastRefusal, requestRefusal}
 use Rattle.intake.specs.Intake.{stripsOf, sourceOf, laid, copied, startingCells}
 use Rattle.demands.specs.Run.{verdictOf, outcome}
-use Rattle.printing.specs.Texts.{textOf, logText}
+use Rattle.demands.specs.Network.{sourcesOf}
+use Rattle.printing.specs.Texts.{lineText, rowsText, textOf, logText}
 use Rattle.printing.specs.Bytes.{joinedFrom, wholeWords, handedOver, requestOf}
 use Rattle.printing.specs.Desk.{deskLent, asksAll, deskText, hostText}
 
@@ -64,6 +66,13 @@ pub record Example : Type 0 where
       ≡ 53 ∷ 32 ∷ 50 ∷ 32 ∷ 49 ∷ 32 ∷ 48 ∷ 32 ∷ 51 ∷ 49 ∷ 32 ∷ 48 ∷ 10 ∷ 48 ∷ 32 ∷ 48 ∷ 32 ∷ 45 ∷ 10 ∷ 49 ∷ 32 ∷ 45 ∷ 53 ∷ 32 ∷ 48 ∷ 10 ∷ 114 ∷ 111 ∷ 117 ∷ 116 ∷ 101 ∷ 10 ∷ []
   pub no-destination : deskText [] (0x50 ∷ 0 ∷ 2 ∷ 0 ∷ 0 ∷ 0x10 ∷ 0 ∷ 0 ∷ 0 ∷ 1 ∷ 0 ∷ 0 ∷ 0xFF ∷ 0xFF ∷ 0xFF ∷ 0xFB ∷ 0 ∷ 0 ∷ 0 ∷ 0 ∷ 0 ∷ 0 ∷ 0 ∷ 2 ∷ [])
       ≡ 114 ∷ 101 ∷ 102 ∷ 117 ∷ 115 ∷ 101 ∷ 100 ∷ 32 ∷ 49 ∷ 54 ∷ 10 ∷ []
+  -- That lane in method 4: `4 2 1 0 37 0`, `0 0 0`, `0 1 -5`, `1 1 0`; with `all`, `1 0 -` before the last. From yard 1: `refused 4`
+  pub pairs : deskText [] (0x40 ∷ 0 ∷ 2 ∷ 0 ∷ 0 ∷ 0x10 ∷ 0 ∷ 0 ∷ 0 ∷ 1 ∷ 0 ∷ 0 ∷ 0xFF ∷ 0xFF ∷ 0xFF ∷ 0xFB ∷ [])
+      ≡ 52 ∷ 32 ∷ 50 ∷ 32 ∷ 49 ∷ 32 ∷ 48 ∷ 32 ∷ 51 ∷ 55 ∷ 32 ∷ 48 ∷ 10 ∷ 48 ∷ 32 ∷ 48 ∷ 32 ∷ 48 ∷ 10 ∷ 48 ∷ 32 ∷ 49 ∷ 32 ∷ 45 ∷ 53 ∷ 10 ∷ 49 ∷ 32 ∷ 49 ∷ 32 ∷ 48 ∷ 10 ∷ []
+  pub every-pair : deskText (97 ∷ 108 ∷ 108 ∷ []) (0x40 ∷ 0 ∷ 2 ∷ 0 ∷ 0 ∷ 0x10 ∷ 0 ∷ 0 ∷ 0 ∷ 1 ∷ 0 ∷ 0 ∷ 0xFF ∷ 0xFF ∷ 0xFF ∷ 0xFB ∷ [])
+      ≡ 52 ∷ 32 ∷ 50 ∷ 32 ∷ 49 ∷ 32 ∷ 48 ∷ 32 ∷ 51 ∷ 55 ∷ 32 ∷ 48 ∷ 10 ∷ 48 ∷ 32 ∷ 48 ∷ 32 ∷ 48 ∷ 10 ∷ 48 ∷ 32 ∷ 49 ∷ 32 ∷ 45 ∷ 53 ∷ 10 ∷ 49 ∷ 32 ∷ 48 ∷ 32 ∷ 45 ∷ 10 ∷ 49 ∷ 32 ∷ 49 ∷ 32 ∷ 48 ∷ 10 ∷ []
+  pub other-source : deskText [] (0x40 ∷ 0 ∷ 2 ∷ 0 ∷ 0 ∷ 0x10 ∷ 0 ∷ 1 ∷ 0 ∷ 1 ∷ 0 ∷ 0 ∷ 0xFF ∷ 0xFF ∷ 0xFF ∷ 0xFB ∷ [])
+      ≡ 114 ∷ 101 ∷ 102 ∷ 117 ∷ 115 ∷ 101 ∷ 100 ∷ 32 ∷ 52 ∷ 10 ∷ []
   -- Seven bytes. `refused 1`
   pub short : deskText [] (0x10 ∷ 0 ∷ 2 ∷ 0 ∷ 0 ∷ 0x10 ∷ 0 ∷ [])
       ≡ 114 ∷ 101 ∷ 102 ∷ 117 ∷ 115 ∷ 101 ∷ 100 ∷ 32 ∷ 49 ∷ 10 ∷ []
@@ -90,7 +99,7 @@ pub record Example : Type 0 where
   pub digits : hexadecimal 0xFEDCBA9876543210 ≡ 102 ∷ 101 ∷ 100 ∷ 99 ∷ 98 ∷ 97 ∷ 57 ∷ 56 ∷ 55 ∷ 54 ∷ 53 ∷ 52 ∷ 51 ∷ 50 ∷ 49 ∷ 48 ∷ []
 
 pub example : Example
-unfolding sameBytes leading decimal signed hexadecimal lineOf signedOf bitsOf bit wrapAdd both pick perform packed packedSet decodeAt zerosKept present admissibleAt carry logged cellsAfter logFrom logOf withoutPublishedFrom withoutPublished greatestFrom decodeAll depthOf chargeOf flat instructions Method1.plan Method2.plan Method3.plan Method5.plan instructionsOf planOf cellsOf resultsOf lengthOf headerRefusal weightOf wordCountOf logLengthOf verdictCell sizesRefusal inRange edgeRefusal sortedRefusal entryRefusal wordRefusal wordsRefusal lastRefusal requestRefusal stripsOf sourceOf laid startingCells verdictOf copied outcome joinedFrom wholeWords handedOver requestOf textOf logText deskText hostText
+unfolding sameBytes leading decimal signed hexadecimal lineOf signedOf bitsOf bit wrapAdd both pick perform packed packedSet decodeAt zerosKept present admissibleAt carry logged cellsAfter logFrom logOf withoutPublishedFrom withoutPublished greatestFrom decodeAll depthOf chargeOf flat instructions Method1.plan Method2.plan Method3.plan Method4.plan Method5.plan instructionsOf planOf cellsOf resultsOf lengthOf headerRefusal weightOf wordCountOf logLengthOf verdictCell sizesRefusal inRange edgeRefusal sortedRefusal entryRefusal wordRefusal wordsRefusal lastRefusal requestRefusal stripsOf sourceOf laid startingCells verdictOf copied outcome sourcesOf lineText rowsText joinedFrom wholeWords handedOver requestOf textOf logText deskText hostText
 example =
     record {
       results = refl;
@@ -108,6 +117,9 @@ example =
       routed = refl;
       no-route = refl;
       no-destination = refl;
+      pairs = refl;
+      every-pair = refl;
+      other-source = refl;
       short = refl;
       broken = refl;
       no-vertex = refl;

@@ -33,7 +33,7 @@ words-most : (h : Header) → Accepted h → wordCountOf h ≤ 1024
 unfolding wordCountOf
 words-most =
     by-method (λ h. wordCountOf h ≤ 1024) (λ n m source a. omega (arith, a .edges-few)) (λ n source a. square-le n (a .vertices-few))
-    (λ n m source a. omega (arith, a .edges-few)) (λ n m source a. omega (arith, a .edges-few))
+    (λ n m source a. omega (arith, a .edges-few)) (λ n m a. omega (arith, a .edges-few)) (λ n m source a. omega (arith, a .edges-few))
 
 by-header : (h : Header) (words : List ℕ) (lent : Lengths) (o later : Option Refusal) → headerRefusal h ≡ o
     → 1024 < length words

@@ -11,13 +11,13 @@ use Rattle.demands.specs.Run.{Lent, outcome}
 use Rattle.printing.specs.Bytes.{requestOf}
 use Rattle.printing.specs.Texts.{textOf, logText}
 
--- Document 01: "Its log holds 8,192 words and its bank 1,190 cells". Results for as many vertices as a request can have.
+-- Document 01: "Its log holds 8,192 words and its bank 1,190 cells". Results for as many vertices as a request can have, and pairs of them.
 abbrev pub deskLent : Lent
 deskLent =
     record {
       cells = replicate 1190 (pos 0);
       log = replicate 8192 0;
-      results = byKind (replicate 32 (pos 0)) (replicate 32 (pos 0)) (replicate 31 (pos 0));
+      results = byKind (replicate 1024 (pos 0)) (replicate 32 (pos 0)) (replicate 31 (pos 0));
     }
 
 -- "all"

@@ -2,10 +2,10 @@
 -- Rests on the outcomes of runs and text's lines.
 use mathlib.Core.Bool.{Bool, cond, not, _&&_, _||_}
 use mathlib.Core.List.{List, [], _∷_, _++_}
-use Prim.Native.Nat.{ℕ, _-_}
+use Prim.Native.Nat.{ℕ, _+_, _-_, _*_}
 use lib.Dec.{eqb}
 use lib.IntN.{ℤ, pos}
-use lib.ListN.{getD}
+use lib.ListN.{length, getD}
 use lib.Signed.{ltZ}
 use Rattle.text.specs.Text.{blank, dash, newline, decimal, signed, hexadecimal, lineOf, numbersLine}
 use Rattle.answers.specs.declared.Place.{Place}
@@ -19,8 +19,9 @@ use Rattle.plans.specs.declared.Header.{Header}
 use Rattle.plans.specs.Plan.{distances, parents, route}
 use Rattle.limits.specs.WithinLimits.{headerIn}
 use Rattle.demands.specs.Run.{Outcome}
+use Rattle.demands.specs.Network.{sourcesOf}
 
--- ---- `yard distance parent`: with `all` for each yard, otherwise for those that are reached (document 02, ask 6)
+-- ---- `yard distance parent`, in method 4 `from to distance`: with `all` for each, otherwise for those that are reached (document 02, asks 6 and 8)
 
 -- A dash for unreached, and for no parent.
 abbrev pub distanceText : ℤ → List ℕ
@@ -29,20 +30,35 @@ distanceText z = cond (eqZ z far) (dash ∷ []) (signed z)
 abbrev pub parentText : ℤ → List ℕ
 parentText z = cond (ltZ z (pos 0)) (dash ∷ []) (signed z)
 
-abbrev pub rowText : (v : ℕ) (distance parent : ℤ) → List ℕ
-rowText v distance parent = lineOf (decimal v ∷ distanceText distance ∷ parentText parent ∷ [])
+abbrev pub yardText : (v : ℕ) (distance parent : ℤ) → List ℕ
+yardText v distance parent = lineOf (decimal v ∷ distanceText distance ∷ parentText parent ∷ [])
 
--- Whether a vertex has no row.
+abbrev pub pairText : (source v : ℕ) (distance : ℤ) → List ℕ
+pairText source v distance = lineOf (decimal source ∷ decimal v ∷ distanceText distance ∷ [])
+
+-- The line of a vertex with its distance from a source, and its parent where there are parents.
+unfoldable pub lineText : Header → (source v : ℕ) (distance parent : ℤ) → List ℕ
+lineText h source v distance parent =
+    let yard = yardText v distance parent in
+    byMethod (h .method) [] (yard ∷ yard ∷ yard ∷ pairText source v distance ∷ yard ∷ [])
+
+-- Whether a vertex has no line.
 abbrev pub leftOut : (all : Bool) (distance : ℤ) → Bool
 leftOut all z = not all && eqZ z far
 
--- The row, if it has one.
-abbrev pub listedText : (all : Bool) (v : ℕ) (distance parent : ℤ) → List ℕ
-listedText all v distance parent = cond (leftOut all distance) [] (rowText v distance parent)
+-- The line, if it has one.
+abbrev pub listedText : (all : Bool) (distance : ℤ) (line : List ℕ) → List ℕ
+listedText all z line = cond (leftOut all z) [] line
 
--- For each of the first `count` vertices.
-abbrev pub rowsText : (all : Bool) (count : ℕ) (distances parents : List ℤ) → List ℕ
-rowsText all count ds ps = flat count (λ v. listedText all v (getD ds v (pos 0)) (getD ps v (pos 0)))
+-- For each source a row: for each vertex its line.
+unfoldable pub rowsText : (all : Bool) → Header → (distances parents : List ℤ) → List ℕ
+rowsText all h ds ps =
+    flat (length (sourcesOf h))
+    (λ r.
+    flat (h .vertices)
+    (λ v.
+    let d = getD ds (r * h .vertices + v) (pos 0) in
+    listedText all d (lineText h (getD (sourcesOf h) r 0) v d (getD ps v (pos 0)))))
 
 -- ---- `route` and the edges shown, without padding; in method 5 alone (document 02, ask 5)
 
@@ -59,14 +75,14 @@ abbrev pub routeWord : List ℕ
 routeWord = 114 ∷ 111 ∷ 117 ∷ 116 ∷ 101 ∷ []
 
 abbrev pub routeText : Header → (route : List ℤ) → List ℕ
-routeText h rs = byMethod (h .method) [] ([] ∷ [] ∷ [] ∷ (routeWord ++ (stepsText (h .vertices - 1) rs ++ (newline ∷ []))) ∷ [])
+routeText h rs = byMethod (h .method) [] ([] ∷ [] ∷ [] ∷ [] ∷ (routeWord ++ (stepsText (h .vertices - 1) rs ++ (newline ∷ []))) ∷ [])
 
 -- ---- `method yards lanes source rounds verdict`, then the rows and the route. A run tells its rounds, log length and verdict.
 
 abbrev pub resultsText : (all : Bool) → Header → (values : List ℕ) (distances parents route : List ℤ) → List ℕ
 resultsText all h values ds ps rs =
     numbersLine (h .method ∷ h .vertices ∷ h .edges ∷ h .source ∷ getD values 0 0 ∷ getD values 2 0 ∷ [])
-    ++ (rowsText all (h .vertices) ds ps ++ routeText h rs)
+    ++ (rowsText all h ds ps ++ routeText h rs)
 
 -- ---- `refused number place`, the place where there is one
 

@@ -1,9 +1,9 @@
 -- From what a run answers and leaves to the text of its outcome.
--- Rests on Fits, answers' Told and limits' Numbers.
+-- Rests on Fits, answers' Told, limits' Numbers, demands' Ran and printing's Unrefused.
 use mathlib.Core.Path.{_≡_, refl, sym, ap, _∙_}
 use mathlib.Core.Bool.{Bool}
 use mathlib.Core.List.{List}
-use Prim.Native.Nat.{ℕ, _<_, _≤_}
+use Prim.Native.Nat.{ℕ, _≤_}
 use lib.IntN.{ℤ}
 use lib.ListN.{length, getD}
 use Rattle.answers.specs.declared.Refusal.{Refusal}
@@ -11,7 +11,7 @@ use Rattle.answers.specs.Refusal.{placeOf, placeShown}
 use Rattle.answers.specs.Told.{refused, Apart}
 use Rattle.answers.proofs.Told.{met-by}
 use Rattle.plans.specs.declared.Header.{Header}
-use Rattle.plans.specs.Plan.{distances, parents, route, byKind}
+use Rattle.plans.specs.Plan.{Accepted, distances, parents, route, byKind}
 use Rattle.limits.specs.WithinLimits.{headerIn}
 use Rattle.limits.proofs.Numbers.{request-apart}
 use Rattle.engine.specs.declared.Answer.{Answer}
@@ -19,9 +19,10 @@ use Rattle.engine.specs.declared.Answer.the-variants.{Ran, NegativeCycle, Refus
 use Rattle.demands.specs.Run.{Lent, refusalOf, verdictOfRun, outcomeBy, outcome}
 use Rattle.engine.specs.Answer.{toldByRun, Met}
 use Rattle.demands.proofs.Refused.{ran-values}
+use Rattle.demands.proofs.Ran.{allowed}
 use Rattle.printing.specs.Texts.{refusalText, toldText, textOf, toldLog, logText}
+use Rattle.printing.proofs.Unrefused.{ran}
 use Rattle.replies.specs.Distinct.{Distinct}
-use Rattle.replies.proofs.Fits as Fits
 use Rattle.replies.proofs.Fits.{log-fits}
 
 pub refused-text : (r : Refusal) → Apart r → (all : Bool) (h : Header) (ds ps rs : List ℤ)
@@ -48,8 +49,9 @@ module _ (request : List ℕ) (lent : Lent) (a : Answer) (cells : List ℤ) (log
   pub distinct : Distinct a
   distinct = told-distinct request lent a (m .answers)
 
-  pub few-vertices : (h : Header) → h ≡ headerIn request → toldByRun a .number ≡ 0 → (0 < h .vertices) × (h .vertices ≤ 32)
-  few-vertices h e z = rw e (Fits.few-vertices request lent (ap (λ t. t .number) (sym (m .answers)) ∙ z))
+  -- A run's header is within the limits.
+  pub run-accepted : (h : Header) → h ≡ headerIn request → toldByRun a .number ≡ 0 → Accepted h
+  run-accepted h e z = rw e (allowed request lent (ran request lent (ap (λ t. t .number) (sym (m .answers)) ∙ z)))
 
   pub short-log : getD (toldByRun a .values) 1 0 ≤ length log
   short-log = rw (m .answers, m .log-left) (log-fits request lent)

@@ -5,9 +5,10 @@ use engine::Answer;
 use engine::Report;
 use plans::Header;
 ghost use mathlib.Core.Path.{_≡_};
-ghost use Prim.Native.Nat.{_+_, _*_, _<_, _≤_};
+ghost use Prim.Native.Nat.{_≤_};
 ghost use lib.ListN.{length, getD};
 ghost use Rattle.text.specs.Text.{Put};
+ghost use Rattle.plans.specs.Plan.{Accepted};
 ghost use Rattle.engine.specs.Answer.{valuesOf, toldByRun};
 ghost use Rattle.printing.specs.Texts.{resultsText, refusalText, toldText, toldLog};
 ghost use Rattle.replies.specs.Distinct.{Distinct};
@@ -22,12 +23,12 @@ fn put_results(
     parents: &[i64],
     route: &[i64],
 ) -> usize
-    requires { ⌜ (814 + 65 * h .vertices ≤ length (now buffer)) × (0 < h .vertices) × (h .vertices ≤ 32) × (h .vertices ≤ length (now distances)) × (h .vertices ≤ length (now parents)) × (length (now route) ≡ 31) ⌝ }
-    ensures { λ n. ⌜ Put (814 + 65 * h .vertices) (resultsText all h (valuesOf r) (now (distances .entry)) (now (parents .entry)) (now (route .entry))) (now (buffer .entry)) (now (buffer .exit)) 0 n ⌝ }
+    requires { ⌜ Accepted h × (67374 ≤ length (now buffer)) × (length (now distances) ≡ 1024) × (length (now parents) ≡ 32) × (length (now route) ≡ 31) ⌝ }
+    ensures { λ n. ⌜ Put 67374 (resultsText all h (valuesOf r) (now (distances .entry)) (now (parents .entry)) (now (route .entry))) (now (buffer .entry)) (now (buffer .exit)) 0 n ⌝ }
 {
     let line = [h.method, h.vertices, h.edges, h.source, r.rounds, r.verdict];
     let next = text::put_numbers(buffer, 0, &line);
-    let last = lines::put_rows(buffer, next, all, h.vertices as usize, distances, parents);
+    let last = lines::put_rows(buffer, next, all, h, distances, parents);
     lines::put_route(buffer, last, h, route)
 }
 
@@ -53,8 +54,8 @@ pub fn put_answer(
     parents: &[i64],
     route: &[i64],
 ) -> usize
-    requires { ⌜ (2894 ≤ length (now buffer)) × (length (now distances) ≡ 32) × (length (now parents) ≡ 32) × (length (now route) ≡ 31) × (toldByRun answer .number ≡ 0 → (0 < h .vertices) × (h .vertices ≤ 32)) × Distinct answer ⌝ }
-    ensures { λ n. ⌜ Put 2894 (toldText all h (toldByRun answer) (now (distances .entry)) (now (parents .entry)) (now (route .entry))) (now (buffer .entry)) (now (buffer .exit)) 0 n ⌝ }
+    requires { ⌜ (67374 ≤ length (now buffer)) × (length (now distances) ≡ 1024) × (length (now parents) ≡ 32) × (length (now route) ≡ 31) × (toldByRun answer .number ≡ 0 → Accepted h) × Distinct answer ⌝ }
+    ensures { λ n. ⌜ Put 67374 (toldText all h (toldByRun answer) (now (distances .entry)) (now (parents .entry)) (now (route .entry))) (now (buffer .entry)) (now (buffer .exit)) 0 n ⌝ }
 {
     match answer {
         Answer::Ran(report) => put_results(buffer, all, h, report, distances, parents, route),

@@ -172,7 +172,6 @@ fn check_word(h: Header, place: usize, before: u64, word: u64) -> Checked
 {
     let method = h.method;
     match method {
-        1 => check_edge(h.vertices, place, word),
         2 => check_entry(place, word),
         3 => check_sorted(h.vertices, place, before, word),
         _ => check_edge(h.vertices, place, word),

@@ -164,7 +164,10 @@ impl Network {
             3 => edges.sort_by_key(|&(_, head, _)| head),
             _ => (),
         }
-        let source = random.below(n) * random.below(2);
+        let source = match method {
+            4 => 0,
+            _ => random.below(n) * random.below(2),
+        };
         Network {
             method,
             n,
@@ -173,10 +176,21 @@ impl Network {
         }
     }
 
-    /// Plain Bellman-Ford with the old mark; `None` for a negative cycle.
+    /// The distances with the old mark, in method 4 from each vertex; `None` for
+    /// a negative cycle.
     fn old_distances(&self) -> Option<Vec<i64>> {
+        let sources = match self.method {
+            4 => 0..self.n,
+            _ => self.source..self.source + 1,
+        };
+        let rows: Option<Vec<_>> = sources.map(|source| self.old_row(source)).collect();
+        rows.map(|rows| rows.concat())
+    }
+
+    /// Plain Bellman-Ford.
+    fn old_row(&self, source: u64) -> Option<Vec<i64>> {
         let mut distances = vec![1 << 38; self.n as usize];
-        distances[self.source as usize] = 0;
+        distances[source as usize] = 0;
         for _ in 0..self.n {
             let before = distances.clone();
             for &(tail, head, weight) in &self.edges {
@@ -222,8 +236,8 @@ fn hundredfold_networks() {
     let mut random = Random::new(SEED + 22);
     let (mut converted, mut unreached, mut furthest) = ([0; 6], 0, [0; 2]);
     let mut cycles = 0;
-    for turn in 0..2_400 {
-        let network = Network::draw(&mut random, METHODS[turn % 4]);
+    for turn in 0..3_000 {
+        let network = Network::draw(&mut random, METHODS[turn % METHODS.len()]);
         let solved = vukstaja::solve(&network.request());
         let Some(mut distances) = network.old_distances() else {
             let refusal = solved.expect_err("a negative cycle is refused");
@@ -246,6 +260,9 @@ fn hundredfold_networks() {
         "{converted:?} networks by method, {unreached} with unreached vertices, \
          {cycles} more with a negative cycle, distances {furthest:?}"
     );
-    assert!(converted.iter().sum::<usize>() > 2_000 && unreached > 500);
+    assert!(METHODS
+        .iter()
+        .all(|&method| converted[method as usize] > 400));
+    assert!(converted.iter().sum::<usize>() > 2_500 && unreached > 500);
     assert_eq!(furthest, [-3_100_000_000, 3_100_000_000]);
 }

@@ -6,7 +6,7 @@ use crate::reference::plan::{head, Public};
 /// The numbers of the faults that a word of each method can have, first those that are told first.
 fn numbers(method: u64) -> &'static [u64] {
     match method {
-        1 | 5 => &[10, 13, 14, 11],
+        1 | 4 | 5 => &[10, 13, 14, 11],
         3 => &[10, 13, 14, 11, 15],
         _ => &[10, 11],
     }

@@ -8,7 +8,7 @@ use crate::reference::{log_length, plan_words, Buffers};
 const MOST: i64 = 100_000_000;
 
 /// The methods that there are.
-pub const METHODS: [u64; 4] = [1, 2, 3, 5];
+pub const METHODS: [u64; 5] = [1, 2, 3, 4, 5];
 
 /// A xorshift generator: small, and the same on every machine.
 pub struct Random(u64);
@@ -73,14 +73,15 @@ pub fn small_request(random: &mut Random) -> Vec<u64> {
     request(random, method, n, m)
 }
 
-/// A valid request; method 2 has no use for `m`.
+/// A valid request; method 2 has no use for `m`, and method 4 none for a source.
 pub fn request(random: &mut Random, method: u64, n: u64, m: u64) -> Vec<u64> {
-    let source = random.below(n);
+    let source = if method == 4 { 0 } else { random.below(n) };
     let edges = if method == 2 { 0 } else { m };
     let mut words = vec![pack(method, n, edges, source)];
     match method {
         1 => words.extend(edge_words(random, n, m)),
         3 => words.extend(sorted_words(random, n, m)),
+        4 => words.extend(circled_words(random, n, m)),
         5 => words.extend(routed_words(random, n, m, source)),
         _ => words.extend(table_words(random, n)),
     }
@@ -124,6 +125,31 @@ fn lead_to_few(random: &mut Random, n: u64, words: &mut [u64]) {
     }
 }
 
+/// Edges, often with a cycle among them whose total is -1, 0 or 1. It is on one
+/// side of a wall, so that vertex 0 may not reach it.
+fn circled_words(random: &mut Random, n: u64, m: u64) -> Vec<u64> {
+    let wall = random.below(n);
+    let mut ring: Vec<u64> = (wall..n).collect();
+    random.shuffle(&mut ring);
+    ring.truncate(1 + random.index(ring.len()));
+    if ring.len() > m as usize || random.one_in(2) {
+        return edge_words(random, n, m);
+    }
+    let following = ring.iter().cycle().skip(1);
+    let steps = ring
+        .iter()
+        .zip(following)
+        .map(|(&tail, &head)| [tail, head]);
+    let mut ends: Vec<([u64; 2], i64)> = steps.map(|ends| (ends, 0)).collect();
+    ends[0].1 = random.between(-1, 1);
+    while ends.len() < m as usize {
+        let tail = random.below(n);
+        let head = same_side(random, tail, wall, n);
+        ends.push(([tail, head], random.between(0, 2)));
+    }
+    climb_words(random, n, ends)
+}
+
 /// Edges, and a destination after them.
 fn routed_words(random: &mut Random, n: u64, m: u64, source: u64) -> Vec<u64> {
     if m + 1 >= n && random.one_in(3) {
@@ -140,7 +166,6 @@ fn routed_words(random: &mut Random, n: u64, m: u64, source: u64) -> Vec<u64> {
 /// A trail from the source through all vertices, in any order among edges that
 /// lead nowhere sooner. The destination is often its end, or not far from it.
 fn trail_words(random: &mut Random, n: u64, m: u64, source: u64) -> Vec<u64> {
-    let heights: Vec<i64> = (0..n).map(|_| random.between(0, 40_000_000)).collect();
     let mut trail: Vec<u64> = (0..n).filter(|&vertex| vertex != source).collect();
     random.shuffle(&mut trail);
     trail.insert(0, source);
@@ -150,16 +175,24 @@ fn trail_words(random: &mut Random, n: u64, m: u64, source: u64) -> Vec<u64> {
     let steps = trail.windows(2).map(|step| [step[0], step[1]]);
     let mut ends: Vec<([u64; 2], i64)> = steps.map(|ends| (ends, 0)).collect();
     ends.extend(others.map(|ends| (ends, detour)));
+    let mut words = climb_words(random, n, ends);
+    words.push(match random.one_in(2) {
+        true => trail[n as usize - 1],
+        false => random.one_of(&trail[n as usize / 2..]),
+    });
+    words
+}
+
+/// Edges with these ends in any order. Their weights climb from one vertex's height
+/// to another's, so that the detours alone make up the total of a cycle.
+fn climb_words(random: &mut Random, n: u64, mut ends: Vec<([u64; 2], i64)>) -> Vec<u64> {
+    let heights: Vec<i64> = (0..n).map(|_| random.between(0, 40_000_000)).collect();
     random.shuffle(&mut ends);
     let words = ends.into_iter().map(|([tail, head], detour)| {
         let climb = heights[head as usize] - heights[tail as usize];
         edge_word(tail, head, climb + detour)
     });
-    let destination = match random.one_in(2) {
-        true => trail[n as usize - 1],
-        false => random.one_of(&trail[n as usize / 2..]),
-    };
-    words.chain([destination]).collect()
+    words.collect()
 }
 
 /// No edge crosses the wall, so that a part stays unreached.
@@ -207,18 +240,17 @@ fn table_weight(random: &mut Random, style: u64, gaps: u64) -> i64 {
     }
 }
 
-/// Buffers with leftovers in them, often longer than the request needs: a route
-/// buffer is lent where there is no route, too.
+/// Buffers with leftovers in them, often longer than the request needs: those of
+/// parents and route are lent where there are none, too.
 pub fn buffers(random: &mut Random, header: u64) -> Buffers {
     let public = Public::read(header);
-    let n = public.n as usize;
     let log = log_length(&plan_words(header));
     let mut spare = || random.index(5) * random.index(2);
     let lengths = [
         public.cells() + spare(),
         log + spare(),
-        n + spare(),
-        n + spare(),
+        public.distances_length() + spare(),
+        public.parents_length() + spare(),
         public.route_length() + spare(),
     ];
     Buffers {
@@ -245,15 +277,16 @@ pub fn damage(random: &mut Random, request: &mut Vec<u64>, lent: &mut Buffers) {
         6 => drop(request.pop()),
         7 => shorten(random, &mut lent.cells, Public::cells, request),
         8 => shorten(random, &mut lent.log, needed_log, request),
-        9 => shorten(random, &mut lent.distances, vertices, request),
-        10 => shorten(random, &mut lent.parents, vertices, request),
+        9 => shorten(
+            random,
+            &mut lent.distances,
+            Public::distances_length,
+            request,
+        ),
+        10 => shorten(random, &mut lent.parents, Public::parents_length, request),
         11 => shorten(random, &mut lent.route, Public::route_length, request),
         _ => damage_destination(random, request),
     }
-}
-
-fn vertices(public: &Public) -> usize {
-    public.n as usize
 }
 
 fn needed_log(public: &Public) -> usize {

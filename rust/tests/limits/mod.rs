@@ -10,7 +10,7 @@ const N: u64 = 32;
 const M: u64 = 128;
 const MOST: i64 = 100_000_000;
 /// The methods that have a list of edges.
-const LISTED: [u64; 3] = [1, 3, 5];
+const LISTED: [u64; 4] = [1, 3, 4, 5];
 
 /// A request from vertex 0; method 3 has the edges sorted, method 5 the last
 /// vertex as its destination.
@@ -37,7 +37,7 @@ fn compared(random: &mut Random, request: &[u64]) -> (Outcome, Buffers) {
     compare(request, lent)
 }
 
-/// The distances of a request that runs.
+/// The distances from vertex 0 of a request that runs.
 fn distances(random: &mut Random, request: &[u64]) -> Vec<i64> {
     let (outcome, left) = compared(random, request);
     assert_eq!(outcome.number, 0);
@@ -50,7 +50,8 @@ fn steps(count: u64) -> Vec<i64> {
 }
 
 /// Every edge lowers the source's total in every pass of methods 1 and 5, and
-/// would once more in the check: no run has lower totals than this.
+/// would once more in the check: no run of theirs has lower totals than this. In
+/// method 4 the least edge counts, and the first stage doubles it.
 #[test]
 fn lowest_totals() {
     let mut random = Random::new(SEED + 17);
@@ -58,6 +59,7 @@ fn lowest_totals() {
     for (method, lowest) in [
         (1, -396_800_000_000),
         (3, -3_100_000_000),
+        (4, -200_000_000),
         (5, -396_800_000_000),
     ] {
         let request = listed(method, &edges);
@@ -110,26 +112,35 @@ fn unreached_vertices_stay_unreached() {
     for reached in [1, 2, 16, 31] {
         let far = vec![FAR; (N - reached) as usize];
         let expected = [steps(reached), far].concat();
-        let mut edges: Vec<u64> = (1..reached).map(|v| edge_word(v - 1, v, MOST)).collect();
-        while edges.len() < M as usize {
-            let tail = reached + random.below(N - reached);
-            edges.push(edge_word(tail, random.below(N), -MOST));
-        }
-        random.shuffle(&mut edges);
         for method in LISTED {
+            let edges = apart(&mut random, method, reached);
             let found = distances(&mut random, &listed(method, &edges));
             assert_eq!(found, expected);
             runs += 1;
         }
-        let apart = table(|(tail, head)| match tail < reached {
+        let entries = table(|(tail, head)| match tail < reached {
             true if head == tail + 1 && head < reached => MOST,
             true => -1,
             false => 0,
         });
-        assert_eq!(distances(&mut random, &apart), expected);
+        assert_eq!(distances(&mut random, &entries), expected);
         runs += 1;
     }
     println!("{runs} requests of full size with unreached vertices");
+}
+
+/// A chain of the reached vertices, and rebates from the others to any vertex. In
+/// method 4 they lead to lower ones: a negative cycle counts there that vertex 0
+/// does not reach.
+fn apart(random: &mut Random, method: u64, reached: u64) -> Vec<u64> {
+    let mut edges: Vec<u64> = (1..reached).map(|v| edge_word(v - 1, v, MOST)).collect();
+    while edges.len() < M as usize {
+        let tail = reached + random.below(N - reached);
+        let heads = if method == 4 { tail } else { N };
+        edges.push(edge_word(tail, random.below(heads), -MOST));
+    }
+    random.shuffle(&mut edges);
+    edges
 }
 
 /// Weights at the ends of their range and 0. With many rebates there is a

@@ -51,8 +51,21 @@ impl Graph {
 
     /// Bellman-Ford: distances, or `None` if a negative cycle is reachable.
     pub fn bellman_ford(&self) -> Option<Vec<Option<i64>>> {
+        self.distances_from(self.source)
+    }
+
+    /// Bellman-Ford from each vertex by itself, or `None` if there is a negative
+    /// cycle anywhere.
+    pub fn table(&self) -> Option<Vec<Vec<Option<i64>>>> {
+        let rows = (0..self.vertices).map(|vertex| self.distances_from(vertex));
+        rows.collect()
+    }
+
+    /// Distances from any vertex, or `None` if it reaches a negative cycle. An
+    /// edge adds once a pass at the most, so no total is near the ends of 64 bits.
+    pub fn distances_from(&self, source: usize) -> Option<Vec<Option<i64>>> {
         let mut distances = vec![None; self.vertices];
-        distances[self.source] = Some(0);
+        distances[source] = Some(0);
         // A walk without cycles has fewer edges than vertices: the last pass must be idle.
         for _ in 0..self.vertices {
             if !self.relax(&mut distances) {
@@ -60,6 +73,19 @@ impl Graph {
             }
         }
         None
+    }
+
+    /// Whether a walk leads from a vertex, for each vertex, to it.
+    pub fn reached_from(&self, vertex: usize) -> Vec<bool> {
+        let mut reached = vec![false; self.vertices];
+        reached[vertex] = true;
+        // Each pass goes a step at least, and no walk needs as many as there are vertices.
+        for _ in 1..self.vertices {
+            for edge in self.present() {
+                reached[edge.head] |= reached[edge.tail];
+            }
+        }
+        reached
     }
 
     fn relax(&self, distances: &mut [Option<i64>]) -> bool {

@@ -64,10 +64,13 @@ fn header_fault(request: &[u64]) -> Option<u64> {
     };
     let public = Public::read(word);
     match public {
-        Public { method, .. } if ![1, 2, 3, 5].contains(&method) => Some(1),
+        Public { method, .. } if !(1..=5).contains(&method) => Some(1),
         Public { n, .. } if n == 0 || n > 32 => Some(2),
         Public { m, .. } if m > 128 => Some(3),
         Public { method: 2, m, .. } if m != 0 => Some(3),
+        Public {
+            method: 4, source, ..
+        } if source != 0 => Some(4),
         Public { source, n, .. } if source >= n => Some(4),
         _ => None,
     }
@@ -116,12 +119,16 @@ fn words_fault(public: &Public, words: &[u64]) -> Option<Outcome> {
 }
 
 fn lent_fault(public: &Public, log_needed: usize, lent: &Buffers) -> Option<u64> {
-    let results = lent.distances.len().min(lent.parents.len());
+    let results = [
+        (lent.distances.len(), public.distances_length()),
+        (lent.parents.len(), public.parents_length()),
+        (lent.route.len(), public.route_length()),
+    ];
     if lent.cells.len() < public.cells() {
         Some(6)
     } else if lent.log.len() < log_needed {
         Some(7)
-    } else if results < public.n as usize || lent.route.len() < public.route_length() {
+    } else if results.iter().any(|(length, needed)| length < needed) {
         Some(8)
     } else {
         None
@@ -171,9 +178,10 @@ fn interpret(plan: &[u64], cells: &mut [i64], log: &mut [u64]) -> (u64, usize) {
 }
 
 fn copy_results(public: &Public, lent: &mut Buffers) {
-    let (n, first) = (public.n as usize, public.distances() as usize);
-    lent.distances[..n].copy_from_slice(&lent.cells[first..first + n]);
-    lent.parents[..n].copy_from_slice(&lent.cells[first + n..first + 2 * n]);
+    let (distances, parents) = (public.distances_length(), public.parents_length());
+    let cells = &lent.cells[public.distances() as usize..];
+    lent.distances[..distances].copy_from_slice(&cells[..distances]);
+    lent.parents[..parents].copy_from_slice(&cells[distances..][..parents]);
     if public.method == 5 {
         let (length, first) = (public.route_length(), public.route() as usize);
         lent.route[..length].copy_from_slice(&lent.cells[first..first + length]);
@@ -229,6 +237,12 @@ pub fn sizes(header: &[u64]) -> Outcome {
     }
     let public = Public::read(header[0]);
     let log = log_length(&plan_words(header[0])) as u64;
-    let (cells, route) = (public.cells() as u64, public.route_length() as u64);
-    ran(0, [cells, log, public.n, public.n, route])
+    let [cells, distances, parents, route] = [
+        public.cells(),
+        public.distances_length(),
+        public.parents_length(),
+        public.route_length(),
+    ]
+    .map(|length| length as u64);
+    ran(0, [cells, log, distances, parents, route])
 }

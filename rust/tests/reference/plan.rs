@@ -30,6 +30,7 @@ impl Public {
         let count = match self.method {
             1 => 3 * m + 3 * n + 8,
             3 => 2 * n * m + 4 * m + 5 * n + 10,
+            4 => 3 * m + n * n + 3 * n + 6,
             5 => 3 * m + 5 * n + 8,
             _ => n * n + 5 * n + 6,
         };
@@ -44,11 +45,27 @@ impl Public {
         }
     }
 
-    /// The first cell of the distances, which the parents follow.
+    /// The first cell of the distances, which the parents follow where there are any.
     pub fn distances(&self) -> u64 {
         match self.method {
             2 => self.n * self.n,
             _ => self.heads() + 2 * self.m,
+        }
+    }
+
+    /// How many distances are given: in method 4 a row for each vertex.
+    pub fn distances_length(&self) -> usize {
+        match self.method {
+            4 => (self.n * self.n) as usize,
+            _ => self.n as usize,
+        }
+    }
+
+    /// How many parents are given: in method 4 none.
+    pub fn parents_length(&self) -> usize {
+        match self.method {
+            4 => 0,
+            _ => self.n as usize,
         }
     }
 
@@ -106,6 +123,7 @@ pub fn emit(public: &Public, words: &mut Vec<u64>) {
     match public.method {
         1 | 5 => writer.edges(public),
         3 => writer.sorted_edges(public),
+        4 => writer.all_pairs(public),
         _ => writer.table(public),
     }
 }
@@ -145,6 +163,30 @@ impl Sorted {
             first: x + 9,
             from,
             to: from + n * m,
+        }
+    }
+}
+
+/// Where method 4 keeps its lists: the distances of all pairs by rows, the column
+/// and the row that are added up, the names of the vertices, and the scratch.
+struct Pairs {
+    d: u64,
+    column: u64,
+    row: u64,
+    y: u64,
+    x: u64,
+}
+
+impl Pairs {
+    fn new(public: &Public) -> Pairs {
+        let (n, d) = (public.n, public.distances());
+        let column = d + n * n;
+        Pairs {
+            d,
+            column,
+            row: column + n,
+            y: column + 2 * n,
+            x: column + 3 * n,
         }
     }
 }
@@ -338,6 +380,98 @@ impl Writer<'_> {
             if !check {
                 self.move_if(cells.giver + v, head, x + 7);
             }
+        }
+    }
+
+    fn all_pairs(mut self, public: &Public) {
+        let (n, m) = (public.n, public.m);
+        let cells = Pairs::new(public);
+        self.start_pairs(n, &cells);
+        for i in 0..m {
+            self.pick_edge(public, &cells, i);
+            self.add_up(n, &cells);
+        }
+        for k in 0..n {
+            for v in 0..n {
+                self.copy(cells.column + v, cells.d + v * n + k);
+                self.copy(cells.row + v, cells.d + k * n + v);
+            }
+            self.add_up(n, &cells);
+        }
+        self.find_cycles(n, &cells);
+        self.mark_pairs(n, &cells);
+        self.open(cells.x + 5);
+    }
+
+    /// No pair is joined by a walk yet, but each vertex to itself. The mark of
+    /// that is FAR doubled so often that no rebates bring it down to FAR.
+    fn start_pairs(&mut self, n: u64, cells: &Pairs) {
+        let &Pairs { d, y, x, .. } = cells;
+        for v in 0..n {
+            self.set(y + v, v as i64);
+        }
+        self.set(x, FAR);
+        self.set(x + 1, FAR);
+        for _ in 0..20 {
+            self.add(x + 1, x + 1, x + 1);
+        }
+        self.set(x + 2, 0);
+        self.set(x + 5, 0);
+        for pair in 0..n * n {
+            self.copy(d + pair, x + 1);
+        }
+        for v in 0..n {
+            self.copy(d + v * (n + 1), x + 2);
+        }
+    }
+
+    /// Makes edge `i` a column, 0 at its tail, and a row, its weight at its head.
+    fn pick_edge(&mut self, public: &Public, cells: &Pairs, i: u64) {
+        let m = public.m;
+        let &Pairs {
+            column, row, y, x, ..
+        } = cells;
+        for v in 0..public.n {
+            self.copy(column + v, x + 1);
+            self.equal(x + 4, i, y + v);
+            self.move_if(column + v, x + 4, x + 2);
+            self.copy(row + v, x + 1);
+            self.equal(x + 4, m + i, y + v);
+            self.move_if(row + v, x + 4, 2 * m + i);
+        }
+    }
+
+    /// Each pair may go by the column and on by the row.
+    fn add_up(&mut self, n: u64, cells: &Pairs) {
+        let &Pairs {
+            d, column, row, x, ..
+        } = cells;
+        for i in 0..n {
+            for j in 0..n {
+                let pair = d + i * n + j;
+                self.add(x + 3, column + i, row + j);
+                self.less(x + 4, x + 3, pair);
+                self.move_if(pair, x + 4, x + 3);
+            }
+        }
+    }
+
+    /// Counts the vertices on negative cycles, and notes whether there are any.
+    fn find_cycles(&mut self, n: u64, cells: &Pairs) {
+        let &Pairs { d, x, .. } = cells;
+        for v in 0..n {
+            self.less(x + 4, d + v * n + v, x + 2);
+            self.add(x + 5, x + 5, x + 4);
+        }
+        self.both(x + 5, x + 5, x + 5);
+    }
+
+    /// Puts FAR wherever no walk was found.
+    fn mark_pairs(&mut self, n: u64, cells: &Pairs) {
+        let &Pairs { d, x, .. } = cells;
+        for pair in d..d + n * n {
+            self.less(x + 4, x, pair);
+            self.move_if(pair, x + 4, x);
         }
     }
 

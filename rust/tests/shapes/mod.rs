@@ -1,4 +1,6 @@
-//! The shapes of method 5's routes, for the tests to count.
+//! The shapes of method 5's routes, for the tests to count, and of method 4's tables.
+
+pub mod tables;
 
 use std::collections::HashSet;
 

@@ -5,7 +5,7 @@ use native.Mathlib.Omega.{arith}
 use lib.IntN.{ℤ, pos}
 use Rattle.lists.proofs.Slices.{counted}
 use Rattle.printing.specs.Desk.{deskText}
-use Rattle.replies.proofs.Answered.{distinct, few-vertices, answer-text}
+use Rattle.replies.proofs.Answered.{distinct, run-accepted, answer-text}
 use Rattle.console.proofs.Whole.{printed}
 use Rattle.console.proofs.desk_text.Statement.{statement}
 use Rattle.console.proofs.desk_text.Tie as tie
@@ -17,7 +17,7 @@ put-answer-requires c κs =
       search needs,
       search needs,
       search needs,
-      λ z. few-vertices _ _ _ _ _ _ _ _ (r .1) _ (r .0) z,
+      λ z. run-accepted _ _ _ _ _ _ _ _ (r .1) _ (r .0) z,
       distinct _ _ _ _ _ _ _ _ (r .1),
     )
 
@@ -37,7 +37,7 @@ desk-text-spec =
     (λ c κs. search needs)
     (λ c. counted {X = ℤ} 1190 (pos 0))
     (λ c. counted {X = ℕ} 8192 0)
-    (λ c. counted {X = ℤ} 32 (pos 0))
+    (λ c. counted {X = ℤ} 1024 (pos 0))
     (λ c. counted {X = ℤ} 32 (pos 0))
     (λ c. counted {X = ℤ} 31 (pos 0))
     (λ c κs. search needs)

@@ -27,7 +27,7 @@ host-text-spec =
     (tie.spec
     (λ c. counted {X = ℤ} 1190 (pos 0))
     (λ c. counted {X = ℕ} 8192 0)
-    (λ c. counted {X = ℤ} 32 (pos 0))
+    (λ c. counted {X = ℤ} 1024 (pos 0))
     (λ c. counted {X = ℤ} 32 (pos 0))
     (λ c. counted {X = ℤ} 31 (pos 0))
     (λ c κs. search needs)

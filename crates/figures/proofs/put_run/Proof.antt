@@ -1,29 +1,27 @@
--- `figures::put_run` meets its contract: a run has 1 to 32 vertices. Rests on the contracts of what it calls.
+-- `figures::put_run` meets its contract: a run's header is within the limits. Rests on the contracts of what it calls.
 use borrow.Author.Needs.{needs}
 use mathlib.Core.Path.{refl}
-use Prim.Native.Nat.{_+_, _*_, _<_, _≤_}
+use Prim.Native.Nat.{_+_, _*_, _≤_}
 use native.Mathlib.Omega.{arith}
+use Rattle.plans.specs.Plan.{Accepted}
 use Rattle.figures.proofs.put_run.Statement.{statement}
 use Rattle.figures.proofs.put_run.Tie as tie
 
-few : (c : tie.After-known-told)
-    → let h = c .before .before .before .before .before .args .h in (0 < h .vertices) × (h .vertices ≤ 32)
-few c = (rw (c .before .answer .given .1) at (c .before .before .before .before .before .pre .4)) refl
+accepted : (c : tie.After-known-told) → Accepted (c .before .before .before .before .before .args .h)
+accepted c = (rw (c .before .answer .given .1) at (c .before .before .before .before .before .pre .4)) refl
 
 put-rows-requires : tie.Need-put-rows-requires
-put-rows-requires c κs =
-    let f = few (c .before .before .before .before .before) in
-    (omega (arith, f), omega (arith, f), omega (arith, f))
+put-rows-requires c κs = (accepted (c .before .before .before .before .before), search needs, search needs, search needs)
 
 -- What the figures and the rows take.
-written : (c : tie.After-put-rows) → c .put-rows .result ≤ 168 + 65 * 32
-written c = omega (arith, c .put-rows .ensures .short, few (c .before .before .before .before .before .before))
+written : (c : tie.After-put-rows) → c .put-rows .result ≤ 168 + 65 * 1024
+written c = omega (arith, c .put-rows .ensures .short)
 
 put-route-requires : tie.Need-put-route-requires
 put-route-requires c κs =
     let r = c .before .before .before in
-    let f = few (r .before .before .before .before .before .before) in
-    (omega (arith, written r), f .0, f .1, search needs)
+    let a = accepted (r .before .before .before .before .before .before) in
+    (omega (arith, written r), a .vertices-some, a .vertices-few, search needs)
 
 returns : tie.Need-returns
 returns c =

@@ -5,7 +5,7 @@ use Prim.Native.Nat.{ℕ}
 use lib.IntN.{ℤ, pos}
 use lib.Seq.{length-take-le}
 use Rattle.lists.proofs.Slices.{counted}
-use Rattle.replies.proofs.Answered.{few-vertices}
+use Rattle.replies.proofs.Answered.{run-accepted}
 use Rattle.figures.proofs.show.Statement.{statement}
 use Rattle.figures.proofs.show.Tie as tie
 
@@ -17,7 +17,7 @@ put-run-requires c κs =
       search needs,
       search needs,
       search needs,
-      λ z. few-vertices _ _ _ _ _ _ _ _ (r .run .ensures) _ (h .read-header .ensures) z,
+      λ z. run-accepted _ _ _ _ _ _ _ _ (r .run .ensures) _ (h .read-header .ensures) z,
     )
 
 pub show-spec : {M : Type 1} → statement M
@@ -28,11 +28,11 @@ show-spec =
     (λ c κs. search needs)
     (λ c. counted {X = ℤ} 8874 (pos 0))
     (λ c. counted {X = ℕ} 497321 0)
-    (λ c. counted {X = ℤ} 32 (pos 0))
+    (λ c. counted {X = ℤ} 1024 (pos 0))
     (λ c. counted {X = ℤ} 32 (pos 0))
     (λ c. counted {X = ℤ} 31 (pos 0))
     (λ c κs. search needs)
-    (λ c. counted {X = ℕ} 2936 0)
+    (λ c. counted {X = ℕ} 67416 0)
     (λ c. search needs)
     (λ c. search needs)
     (λ c. search needs)

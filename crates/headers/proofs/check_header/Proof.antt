@@ -18,10 +18,12 @@ returns-4 : tie.Need-returns-4
 returns-4 c = edges-many _ (search method-known) (omega arith) (omega arith) (omega arith)
 
 returns-5 : tie.Need-returns-5
-returns-5 c = source-high _ (search method-known) (omega arith) (omega arith) (omega arith) (omega arith)
+returns-5 c =
+    source-high _ (search method-known) (omega arith) (omega arith) (omega arith) _ (c .before .before .«source-count» .ensures) (omega arith)
 
 returns-6 : tie.Need-returns-6
-returns-6 c = none-met _ (search method-known) (omega arith) (omega arith) (omega arith) (omega arith)
+returns-6 c =
+    none-met _ (search method-known) (omega arith) (omega arith) (omega arith) _ (c .before .before .«source-count» .ensures) (omega arith)
 
 pub check-header-spec : {M : Type 1} → statement M
 check-header-spec =
@@ -33,5 +35,6 @@ check-header-spec =
     returns-3
     (λ c κs. search needs)
     returns-4
+    (λ c κs. search needs)
     returns-5
     returns-6)

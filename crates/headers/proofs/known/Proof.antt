@@ -12,4 +12,6 @@ known-spec =
     (λ c. rw (c .match .keys2))
     (λ c. rw (c .match .keys3))
     (λ c. rw (c .match .keys4))
-    (λ c. no-other (c .before .args .method) (λ e. omega arith) (λ e. omega arith) (λ e. omega arith) (λ e. omega arith)))
+    (λ c. rw (c .match .keys5))
+    (λ c.
+    no-other (c .before .args .method) (λ e. omega arith) (λ e. omega arith) (λ e. omega arith) (λ e. omega arith) (λ e. omega arith)))

@@ -11,4 +11,5 @@ most-edges-spec =
     (λ c. rw (c .match .keys1))
     (λ c. rw (c .match .keys2))
     (λ c. rw (c .match .keys3))
-    (λ c. no-edges (c .before .args .method) (λ e. omega arith) (λ e. omega arith) (λ e. omega arith)))
+    (λ c. rw (c .match .keys4))
+    (λ c. no-edges (c .before .args .method) (λ e. omega arith) (λ e. omega arith) (λ e. omega arith) (λ e. omega arith)))

@@ -20,11 +20,15 @@ returns-3 c = let m = c .before in rw (m .match .keys3, c .edge-strips2 .ensures
 
 returns-4 : tie.Need-returns-4
 unfolding stripsOf
-returns-4 c =
+returns-4 c = let m = c .before in rw (m .match .keys4, c .edge-strips3 .ensures, m .before .new .ensures)
+
+returns-5 : tie.Need-returns-5
+unfolding stripsOf
+returns-5 c =
     let s = c .before .before .before .before in
     rw (
-      method-five _ (s .pre) (λ e. omega arith) (λ e. omega arith) (λ e. omega arith),
-      c .edge-strips3 .ensures,
+      method-five _ (s .pre) (λ e. omega arith) (λ e. omega arith) (λ e. omega arith) (λ e. omega arith),
+      c .edge-strips4 .ensures,
       c .before .new3 .ensures,
     )
 
@@ -42,6 +46,8 @@ strips-of-spec =
     (λ c. let s = sizes _ (c .before .before .pre) in omega arith)
     (λ c κs. search needs)
     (λ c. let s = sizes _ (c .before .before .pre) in omega arith)
+    (λ c κs. search needs)
+    (λ c. let s = sizes _ (c .before .before .pre) in omega arith)
     (λ c. let s = sizes _ (c .before .before .pre) in omega arith)
     (λ c. search needs)
     (λ c. let s = sizes _ (c .before .before .pre) in omega arith)
@@ -51,4 +57,5 @@ strips-of-spec =
     returns
     returns-2
     returns-3
-    returns-4)
+    returns-4
+    returns-5)

@@ -1,58 +1,35 @@
--- `lines::put_rows` meets its contract: before vertex v, the rows of those before it are written. Rests on Repeated and the machine's Tested.
-use mathlib.Core.Path.{_≡_}
-use Prim.Native.Nat.{_*_, _-_, _≤_}
+-- `lines::put_rows` meets its contract. Rests on Methods and text's Written.
+use borrow.Author.Needs.{needs}
+use Prim.Native.Nat.{_*_}
 use native.Mathlib.Omega.{arith}
-use lib.IntN.{pos}
-use lib.ListN.{getD}
-use Rattle.machine.proofs.Tested.{kept}
-use Rattle.text.specs.Text.{Put}
-use Rattle.printing.specs.Texts.{listedText, rowsText}
-use Rattle.lines.proofs.Repeated.{start, again}
+use Rattle.text.proofs.Written.{wider}
+use Rattle.lines.proofs.Methods.{pairs, yards}
 use Rattle.lines.proofs.put_rows.Statement.{statement}
 use Rattle.lines.proofs.put_rows.Tie as tie
 
-abbrev Inv-loop : tie.InvT-loop
-Inv-loop buffer₀ at all count distances parents next₀ v₀ buffer next v =
-    Put (65 * v) (rowsText all v distances parents) buffer₀ buffer at next × (v ≤ count)
-
-abbrev μ-loop : tie.MeasureT-loop
-μ-loop buffer₀ at all count distances parents next₀ v₀ buffer next v = count - v
-
-put-row-requires : tie.Need-put-row-requires Inv-loop μ-loop
-put-row-requires c κs = let p = c .before .before .before .before .loop .inv .0 in omega (arith, p .short, p .long)
-
-loop-again : tie.Need-loop-again Inv-loop μ-loop
-loop-again c =
-    let p = c .before .before in
-    let a = p .before in
-    let l = a .before .before .before .before in
-    let s = l .before .before .args in
-    let d = getD (s .distances .now) (l .loop .v) (pos 0) in
-    let q = getD (s .parents .now) (l .loop .v) (pos 0) in (
-      again 65 (λ v. listedText (s .all) v (getD (s .distances .now) v (pos 0)) (getD (s .parents .now) v (pos 0))) (l .loop .inv .0)
-          (rw (kept d (a .before .put-row-arg2 .given), kept q (a .put-row-arg3 .given)) at (p .put-row .ensures)),
-      omega arith,
-    )
-
-returns : tie.Need-returns Inv-loop μ-loop
+returns : tie.Need-returns
 returns c =
-    let e : c .before .loop .v ≡ c .before .before .before .args .count = omega arith in
-    rw e at (c .before .loop .inv .0)
+    let p = c .before .before in
+    let t = p .before .before in
+    let s = t .before .before .before in
+    rw (pairs (s .args .all) (s .args .distances .now) (s .args .parents .now) (s .args .h) (t .if1 .taken))
+    (wider (p .put-table .ensures) (65 * 1024) (omega (arith, s .pre .0 .vertices-few)))
+
+returns-2 : tie.Need-returns-2
+returns-2 c =
+    let p = c .before .before in
+    let t = p .before .before in
+    let s = t .before .before .before in
+    rw (yards (s .args .all) (s .args .distances .now) (s .args .parents .now) (s .args .h) (s .pre .0) (t .if1 .left))
+    (wider (p .put-yards .ensures) (65 * 1024) (omega (arith, s .pre .0 .vertices-few)))
 
 pub put-rows-spec : {M : Type 1} → statement M
 put-rows-spec =
     tie.close
     (tie.spec
-    Inv-loop
-    μ-loop
-    (λ c. (start 65 _ _ _, omega arith))
-    (λ c. omega arith)
-    (λ c. omega arith)
-    (λ c. omega arith)
-    (λ c. omega arith)
-    put-row-requires
-    (λ c. omega arith)
-    (λ c. omega arith)
-    loop-again
-    (λ c. c .before .loop .inv .0 .long)
-    returns)
+    (λ c κs. search needs)
+    (λ c. search needs)
+    returns
+    (λ c κs. search needs)
+    (λ c. search needs)
+    returns-2)

@@ -1,7 +1,7 @@
--- `requests::check_word` meets its contract: a law for each method. Rests on Words.
+-- `requests::check_word` meets its contract: a law for each way out. Rests on Words.
 use borrow.Author.Needs.{needs}
 use native.Mathlib.Omega.{arith}
-use Rattle.limits.proofs.Words.{an-edge, an-entry, a-sorted-edge, a-routed-edge}
+use Rattle.limits.proofs.Words.{an-entry, a-sorted-edge, an-edge}
 use Rattle.requests.proofs.check_word.Statement.{statement}
 use Rattle.requests.proofs.check_word.Tie as tie
 
@@ -12,8 +12,6 @@ check-word-spec =
     (λ c κs. search needs)
     (λ c κs. search needs)
     (λ c κs. search needs)
-    (λ c κs. search needs)
-    (λ c. search an-edge)
     (λ c. search an-entry)
     (λ c. search a-sorted-edge)
-    (λ c. search (a-routed-edge, arith)))
+    (λ c. search (an-edge, arith)))
