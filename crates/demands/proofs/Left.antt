@@ -213,7 +213,7 @@ module _ (h : Header) (ws : List ℕ) (at : Edges.Places) (is : OverEdgesAt h ws
 -- ---- method 4
 
 -- The bounds of its sums, in figures.
-lowest : doubled mostWeight 33 ≡ 2 ^ 33 * 100000000
+lowest : doubled mostWeight 32 ≡ 2 ^ 32 * 100000000
 unfolding doubled
 lowest = refl
 
@@ -240,10 +240,10 @@ module _ (n m : ℕ) (ws : List ℕ) {start left : List ℤ} (few : n ≤ 32)
 
   -- n stages are 32 at most.
   wider : (x w : ℤ)
-      → (pos 0 ≤ℤ ((x +ℤ w) +ℤ pos (doubled mostWeight (suc n)))) × ((x +ℤ w) ≤ℤ pos (Method4.high (natAbs far) + Method4.high (natAbs far)))
-      → (negsuc (2 ^ 33 * 100000000 - 1) ≤ℤ (x +ℤ w)) × ((x +ℤ w) ≤ℤ pos (2 ^ 60 - 2 ^ 21))
+      → (pos 0 ≤ℤ ((x +ℤ w) +ℤ pos (doubled mostWeight n))) × ((x +ℤ w) ≤ℤ pos (Method4.high (natAbs far) + Method4.high (natAbs far)))
+      → (negsuc (2 ^ 32 * 100000000 - 1) ≤ℤ (x +ℤ w)) × ((x +ℤ w) ≤ℤ pos (2 ^ 60 - 2 ^ 21))
   wider x w (low, up) = (
-    omega (arithℤ, doubled-most mostWeight (suc n) 33 (omega arith), lowest, sum (x +ℤ w) (pos (doubled mostWeight (suc n)))),
+    omega (arithℤ, doubled-most mostWeight n 32 few, lowest, sum (x +ℤ w) (pos (doubled mostWeight n))),
     omega (arithℤ, highest),
   )
 

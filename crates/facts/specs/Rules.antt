@@ -161,7 +161,7 @@ pub record Rules : Type 0 where
         results = byKind (pos 0 ∷ pos 549755813887 ∷ pos 9 ∷ []) (negsuc 0 ∷ negsuc 0 ∷ pos 9 ∷ []) (negsuc 0 ∷ pos 9 ∷ []);
       }
   -- "must be shown below it": of a reached yard's total and a price, in every method but 4, a sum of FAR is not, one less is; from an unreached yard,
-  -- or in method 2 where there is no lane, nothing is said. In method 4: of two entries of -10^8 × 2^32, and of two that are HIGH; one past each end.
+  -- or in method 2 where there is no lane, nothing is said. In method 4: of two entries of -10^8 × 2^31, and of two that are HIGH; one past each end.
   pub sums : (¬ sumBound (headerOf 0x1000010000000000) (pos 549755813786) (pos 101))
       × (¬ sumBound (headerOf 0x2000010000000000) (pos 549755813786) (pos 101))
       × (¬ sumBound (headerOf 0x3000010000000000) (pos 549755813786) (pos 101))
@@ -169,9 +169,9 @@ pub record Rules : Type 0 where
       × sumBound (headerOf 0x1000010000000000) (pos 549755813786) (pos 100)
       × sumBound (headerOf 0x1000010000000000) (pos 549755813887) (pos 100)
       × sumBound (headerOf 0x2000010000000000) (pos 100) (pos 549755813887)
-      × sumBound (headerOf 0x4000010000000000) (negsuc 429496729599999999) (negsuc 429496729599999999)
+      × sumBound (headerOf 0x4000010000000000) (negsuc 214748364799999999) (negsuc 214748364799999999)
       × sumBound (headerOf 0x4000010000000000) (pos 576460752302374912) (pos 576460752302374912)
-      × (¬ sumBound (headerOf 0x4000010000000000) (negsuc 429496729599999999) (negsuc 429496729600000000))
+      × (¬ sumBound (headerOf 0x4000010000000000) (negsuc 214748364799999999) (negsuc 214748364800000000))
       × (¬ sumBound (headerOf 0x4000010000000000) (pos 576460752302374912) (pos 576460752302374913))
   -- The sources that distances are from: the header's, in method 4 every yard.
   pub sources : (sourcesOf (headerOf 0x1000200008000007) ≡ 7 ∷ [])

@@ -4,7 +4,7 @@ use mathlib.Core.Path.{_≡_, refl, sym, ap, _∙_}
 use mathlib.Core.Logic.{_⊎_, inl, inr, _↔_}
 use mathlib.Core.Bool.{Bool, true, false}
 use mathlib.Core.List.{List, [], _∷_, _++_}
-use Prim.Native.Nat.{ℕ, zero, suc, _+_, _<_, _≤_}
+use Prim.Native.Nat.{ℕ, zero, suc, _+_, _-_, _<_, _≤_}
 use native.Mathlib.Omega.{arith}
 use native.Mathlib.Decide.{ℕ-discrete}
 use borrow.Author.Tests.{eqb-true, eq-eqb}
@@ -189,19 +189,20 @@ module _ (edge : ℕ → Edge) (m n limit far high : ℕ) (below : Below (networ
       still-band net high (λ i. at k i k) (λ j. at k k j) (at k) s s (s + s) k i j (omega arith) (doubled-high (suc k) h) (p i k) (p k j)
       (wider net high s (s + s) i j (at k i j) (omega arith) (p i j))
 
-  -- So what is added lies there, whether or not there is a negative cycle.
-  in-band : (b i j : ℕ) (e : ℤ) → b ≤ doubled limit n → Band net high b i j e → Within (doubled limit n) high e
-  in-band b i j e l o = band-within net high b (doubled limit n) i j e l (omega (arith, room .apart)) o
+  -- So what a stage or an edge adds lies there, whether or not there is a negative cycle.
+  in-band : (b i j : ℕ) (e : ℤ) → b ≤ doubled limit (n - 1) → Band net high b i j e → Within (doubled limit (n - 1)) high e
+  in-band b i j e l o =
+      band-within net high b (doubled limit (n - 1)) i j e l (omega (arith, doubled-most limit (n - 1) n (omega arith), room .apart)) o
 
-  pub column-within : (l i : ℕ) → Within (doubled limit n) high (column edge (pos high) l i)
+  pub column-within : (l i : ℕ) → Within (doubled limit (n - 1)) high (column edge (pos high) l i)
   column-within l i = in-band 0 i (edge l .from) (c l i) (omega arith) (column-band l i)
 
-  pub row-within : (l : ℕ) → l < m → (j : ℕ) → Within (doubled limit n) high (row edge (pos high) l j)
+  pub row-within : (l : ℕ) → l < m → (j : ℕ) → Within (doubled limit (n - 1)) high (row edge (pos high) l j)
   unfolding doubled
-  row-within l h j = in-band limit (edge l .from) j (r l j) (doubled-most limit 0 n (omega arith)) (row-band l j h)
+  row-within l h j = in-band limit (edge l .from) j (r l j) (doubled-most limit 0 (n - 1) (omega arith)) (row-band l j h)
 
-  pub stage-within : (k : ℕ) → k ≤ n → (i j : ℕ) → Within (doubled limit n) high (stages edge (pos high) m k i j)
-  stage-within k h i j = in-band (doubled limit k) i j (at k i j) (doubled-most limit k n h) (stages-band k h i j)
+  pub stage-within : (k : ℕ) → k < n → (i j : ℕ) → Within (doubled limit (n - 1)) high (stages edge (pos high) m k i j)
+  stage-within k h i j = in-band (doubled limit k) i j (at k i j) (doubled-most limit k (n - 1) (omega arith)) (stages-band k (omega arith) i j)
 
   -- ---- entries fall
 

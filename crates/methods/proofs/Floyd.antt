@@ -2,7 +2,7 @@
 -- Rests on stores, names, bits and filled tables, and on graph's bounds of entries.
 use mathlib.Core.Path.{_≡_, refl, sym, ap, _∙_}
 use mathlib.Core.Bool.{Bool, true, false, cond, not, _&&_, or-true, or-false}
-use Prim.Native.Nat.{ℕ, zero, suc, _+_, _*_, _<_, _≤_}
+use Prim.Native.Nat.{ℕ, zero, suc, _+_, _-_, _*_, _<_, _≤_}
 use native.Mathlib.Nat.{add-zero}
 use native.Mathlib.Omega.{arith}
 use borrow.Author.Tests.{eq-eqb, ne-eqb, eqb-true, lt-ltb, le-ltb}
@@ -34,9 +34,9 @@ use Rattle.methods.proofs.OverEdges.{EdgesAt, ends-below}
 -- ---- sums and steps
 
 module _ (far limit n : ℕ) where
-  -- How far below 0 an entry may lie.
+  -- How far below 0 an entry may lie that is added.
   abbrev pub most : ℕ
-  most = doubled limit n
+  most = doubled limit (n - 1)
 
   abbrev pub Sum : ℤ → ℤ → Type 0
   Sum x w = Within most (high far) x × Within most (high far) w
@@ -47,7 +47,7 @@ module _ (far limit n : ℕ) where
 
   module _ (room : Room far limit n) where
     size : (x : ℤ) → Within most (high far) x → natAbs x ≤ high far
-    size x (low, up) = abs-most x (high far) (omega arithℤ) (omega (arithℤ, sum x (pos most), room .tables .apart))
+    size x (low, up) = abs-most x (high far) (omega arithℤ) (omega (arithℤ, sum x (pos most), doubled-most limit (n - 1) n (omega arith), room .tables .apart))
 
     pub exact : (x w : ℤ) → Sum x w → wrapAdd x w ≡ x +ℤ w
     exact x w (p, q) = sum-exact x w (omega (arith, size x p, size w q, room .fits))
@@ -56,12 +56,10 @@ module _ (far limit n : ℕ) where
     natural : (k : ℕ) → k ≤ high far → Within most (high far) (pos k)
     natural k l = (omega (arithℤ, sum (pos k) (pos most)), omega arithℤ)
 
-  pub bounds : (x w : ℤ) → Sum x w
-      → (pos 0 ≤ℤ ((x +ℤ w) +ℤ pos (doubled limit (suc n)))) × ((x +ℤ w) ≤ℤ pos (high far + high far))
-  bounds x w ((a, b), (c, d)) = (
-    omega (arithℤ, doubled-more limit n, sum x w, sum x (pos most), sum w (pos most), sum (x +ℤ w) (pos (doubled limit (suc n)))),
-    omega (arithℤ, sum x w),
-  )
+  pub bounds : 0 < n → (x w : ℤ) → Sum x w → (pos 0 ≤ℤ ((x +ℤ w) +ℤ pos (doubled limit n))) × ((x +ℤ w) ≤ℤ pos (high far + high far))
+  bounds some x w ((a, b), (c, d)) =
+      let twice : doubled limit n ≡ most + most = ap (doubled limit) (omega arith) ∙ doubled-more limit (n - 1) in
+      (omega (arithℤ, sum x w, sum x (pos most), sum w (pos most), sum (x +ℤ w) (pos (doubled limit n))), omega (arithℤ, sum x w))
 
 -- ---- negative entries of the diagonal, counted
 
@@ -193,7 +191,7 @@ module _ (far limit : ℕ) (edge : ℕ → Edge) (n m : ℕ) (room : Room far li
   stage-runs k s h e =
       let c : ℕ → ℤ = λ i. at k i k in
       let r : ℕ → ℤ = λ j. at k k j in
-      let inside = stage-within edge m n limit far (high far) below (limited .weight-most) (room .tables) k (omega arith) in
+      let inside = stage-within edge m n limit far (high far) below (limited .weight-most) (room .tables) k h in
       loop (steps far limit n) (λ v t. Holds far edge n m (at k) t × Holding c r v t) n _ _ _ (e, (fill-none _ _, fill-none _ _))
       (λ v t q ((f, d), (cs, rs)). ((f, d), (fill v (d v k q h) cs, fill v (d k v h q) rs)))
       (λ t (e, b). update-runs c r (at k) (λ i. inside i k) (λ j. inside k j) (counted-to outer k start) t e b)

@@ -70,5 +70,5 @@ module _ (far limit : ℕ) (edge : ℕ → Edge) (n m : ℕ) (cells : List ℤ) 
         rest = λ k l. ran .1 .mirrored .rest k (omega arith);
         long = ran .1 .mirrored .long;
         exact = summed-map (Sum far limit n) _ (exact far limit n room) (plan far n m) cells (ran .0);
-        bounded = summed-map (Sum far limit n) _ (bounds far limit n) (plan far n m) cells (ran .0);
+        bounded = summed-map (Sum far limit n) _ (bounds far limit n (laid .source-below)) (plan far n m) cells (ran .0);
       }

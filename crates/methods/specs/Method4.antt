@@ -3,7 +3,7 @@
 use mathlib.Core.Path.{_≡_}
 use mathlib.Core.Logic.{_↔_}
 use mathlib.Core.List.{List}
-use Prim.Native.Nat.{ℕ, suc, _+_, _*_, _^_, _<_, _≤_}
+use Prim.Native.Nat.{ℕ, _+_, _*_, _^_, _<_, _≤_}
 use lib.IntN.{ℤ, pos, _+ℤ_}
 use lib.ListN.{length}
 use lib.Signed.{_≤ℤ_}
@@ -57,5 +57,5 @@ pub record Solved (far limit : ℕ) (edge : ℕ → Edge) (n m : ℕ) (cells lef
   pub rest : (k : ℕ) → cellCount n m ≤ k → cellAt left k ≡ cellAt cells k
   pub long : length left ≡ length cells
   pub exact : Exact (plan far n m) cells
-  -- Each sum, whatever the verdict, is from `limit`, doubled once for each stage and once more, below 0 to twice HIGH.
-  pub bounded : Summed (λ x w. (pos 0 ≤ℤ ((x +ℤ w) +ℤ pos (doubled limit (suc n)))) × ((x +ℤ w) ≤ℤ pos (high far + high far))) (plan far n m) cells
+  -- Each sum, whatever the verdict, is from `limit`, doubled once for each stage, below 0 to twice HIGH.
+  pub bounded : Summed (λ x w. (pos 0 ≤ℤ ((x +ℤ w) +ℤ pos (doubled limit n))) × ((x +ℤ w) ≤ℤ pos (high far + high far))) (plan far n m) cells
