@@ -13,7 +13,7 @@ use Rattle.lists.proofs.Slices.{next}
 use Rattle.machine.specs.Instruction.{Instruction, addresses}
 use Rattle.machine.specs.Word.{opField, dField, bField, decode, zerosKept, allBelow, present, admissibleAt, admissible}
 use Rattle.machine.specs.Log.{Admitted}
-use Rattle.charge.specs.Word.{NoDeeper}
+use Rattle.deepening.specs.Word.{NoDeeper}
 use Rattle.charge.specs.Table.{depthsIn, enough}
 
 -- ---- whether they keep to them

@@ -1,4 +1,1 @@
-pub mod Words
-pub mod Deepening
 pub mod Fitting
-pub mod Marks

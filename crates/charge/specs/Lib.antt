@@ -1,4 +1,1 @@
-pub mod Word
 pub mod Table
-pub mod Place
-pub mod Worked

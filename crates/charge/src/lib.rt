@@ -1,16 +1,14 @@
 // The charge of operation words: their greatest depth (document 02, ask 4). The cells' depths are in a local table where the words keep to the
 // cells of one and are worth clearing it, else in the lent cells, whose numbers wait in the lent log and are put back.
-// Rests on ops and fields.
-mod place;
+// Rests on marks, deepening and ops.
 mod table;
-mod word;
 
 ghost use mathlib.Core.Path.{_≡_};
 ghost use Prim.Native.Nat.{_^_, _≤_};
 ghost use lib.ListN.{length};
 ghost use Rattle.machine.specs.Log.{Admitted};
 ghost use Rattle.charge.specs.Table.{enough};
-ghost use Rattle.charge.specs.Worked.{WorkedOut};
+ghost use Rattle.deepening.specs.Worked.{WorkedOut};
 
 // From so many words on, clearing the larger table takes less time than it saves.
 const SHORT: usize = 256;
@@ -38,7 +36,7 @@ pub fn depth_of(words: &[u64], cells: &mut [i64], log: &mut [u64]) -> u64
         return table::among_few(words);
     }
     if words.len() < SHORT {
-        return place::greatest(words, cells, log);
+        return marks::greatest(words, cells, log);
     }
     if cells.len() <= table::MANY {
         return table::among_many(words);
@@ -46,5 +44,5 @@ pub fn depth_of(words: &[u64], cells: &mut [i64], log: &mut [u64]) -> u64
     if fits(words, table::MANY) {
         return table::among_many(words);
     }
-    place::greatest(words, cells, log)
+    marks::greatest(words, cells, log)
 }

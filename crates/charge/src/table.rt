@@ -1,5 +1,5 @@
 // The greatest depth of words, with the cells' depths in a local table.
-// Rests on ops.
+// Rests on deepening and ops.
 use ops::Parts;
 ghost use mathlib.Core.Path.{_≡_};
 ghost use Prim.Native.Nat.{_^_, _<_, _≤_};
@@ -8,7 +8,7 @@ ghost use lib.ListN.{length};
 ghost use Rattle.machine.specs.Word.{decodeAt, admissibleAt, admissible};
 ghost use Rattle.machine.specs.Log.{Admitted};
 ghost use Rattle.machine.specs.Depth.{depthOf};
-ghost use Rattle.charge.specs.Word.{depthBy, Deepens, NoDeeper};
+ghost use Rattle.deepening.specs.Word.{depthBy, Deepens, NoDeeper};
 ghost use Rattle.charge.specs.Table.{depthsIn};
 
 // The cells of a table: of one that is cleared in no time, and of one that every method's plan keeps to. 2 and 64 KiB.
@@ -34,7 +34,7 @@ fn depth_of(table: &[u32], w: Parts) -> u64
     let x = depth_at(table, w.a);
     let y = depth_at(table, w.b);
     let z = depth_at(table, w.d);
-    crate::word::depth_from(w.op, x, y, z)
+    deepening::depth_from(w.op, x, y, z)
 }
 
 // That depth, which the cell that the word writes takes.

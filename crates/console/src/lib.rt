@@ -1,16 +1,13 @@
 // The desk's program and `host_log` but for reading and writing: from an argument and a request's bytes to the text of its answer, or of its log.
-// Rests on engine, printing and replies.
+// Rests on input, engine, printing and replies.
 use engine::Answer;
 use plans::Header;
 ghost use mathlib.Core.Path.{_≡_};
-ghost use Prim.Native.Nat.{_+_, _≤_};
-ghost use lib.ListN.{length};
-ghost use Rattle.lists.specs.Buffers.{overwritten};
 ghost use Rattle.limits.specs.WithinLimits.{headerIn};
 ghost use Rattle.plans.specs.Plan.{byKind};
 ghost use Rattle.demands.specs.Run.{outcome};
 ghost use Rattle.engine.specs.Answer.{Met};
-ghost use Rattle.printing.specs.Bytes.{joinedFrom, wholeCount, wholeWords, handedOver, requestOf};
+ghost use Rattle.printing.specs.Bytes.{requestOf};
 ghost use Rattle.printing.specs.Desk.{deskText, hostText};
 ghost use Rattle.console.specs.Printed.{Printed};
 
@@ -20,57 +17,7 @@ struct Served {
     answer: Answer,
 }
 
-// The longest request and one word more.
-const WORDS: usize = 1026;
-
-// ---- bytes to a request
-
-// The word of the eight bytes from place `at` on, most significant first.
-fn join_bytes(bytes: &[u8], at: usize) -> u64
-    requires { ⌜ at + 8 ≤ length (now bytes) ⌝ }
-    ensures { λ r. ⌜ r ≡ joinedFrom (now (bytes .entry)) at 8 ⌝ }
-{
-    let mut word: u64 = 0;
-    let mut i: usize = 0;
-    while i < 8 {
-        word = fields::join(word, bytes[at + i] as u64, 8);
-        i += 1;
-    }
-    word
-}
-
-// How many whole words bytes of this number have, of those that are read.
-fn whole_count(size: usize) -> usize
-    ensures { λ r. ⌜ r ≡ wholeCount size ⌝ }
-{
-    if size / 8 < WORDS { size / 8 } else { WORDS }
-}
-
-// How many words they count as.
-fn handed_over(size: usize) -> usize
-    ensures { λ r. ⌜ r ≡ handedOver size ⌝ }
-{
-    if size < 8 {
-        return 0;
-    }
-    if size % 8 == 0 {
-        return whole_count(size);
-    }
-    WORDS
-}
-
-// The whole words, written to the start of `words`.
-fn to_words(bytes: &[u8], words: &mut [u64])
-    requires { ⌜ wholeCount (length (now bytes)) ≤ length (now words) ⌝ }
-    ensures { λ _. ⌜ now (words .exit) ≡ overwritten (wholeWords (now (bytes .entry))) (now (words .entry)) ⌝ }
-{
-    let count = whole_count(bytes.len());
-    let mut k: usize = 0;
-    while k < count {
-        words[k] = join_bytes(bytes, 8 * k);
-        k += 1;
-    }
-}
+// ---- the run
 
 // The request that bytes make, run.
 fn run_bytes(
@@ -84,8 +31,8 @@ fn run_bytes(
     ensures { λ r. ⌜ (r .header ≡ headerIn (requestOf (now (bytes .entry)))) × Met (outcome (requestOf (now (bytes .entry))) (record { cells = now (cells .entry); log = now (log .entry); results = byKind (now (distances .entry)) (now (parents .entry)) (now (route .entry)) })) (r .answer) (now (cells .exit)) (now (log .exit)) (byKind (now (distances .exit)) (now (parents .exit)) (now (route .exit))) ⌝ }
 {
     let mut words = [0u64; 1026];
-    to_words(bytes, &mut words);
-    let count = handed_over(bytes.len());
+    input::to_words(bytes, &mut words);
+    let count = input::handed_over(bytes.len());
     let answer = engine::run(&words[..count], cells, log, distances, parents, route);
     let header = headers::read_header(words[0]);
     Served { header, answer }

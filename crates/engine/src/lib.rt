@@ -1,5 +1,5 @@
 // The engine: a request run on lent buffers.
-// Rests on demands (what it promises), requests (checks), headers (figures and rounds), intake (the starting cells), planner (the plan) and
+// Rests on demands (what it promises), requests (checks), headers (figures), rounds, intake (the starting cells), planner (the plan) and
 // runner (carrying out).
 use answers::Checked;
 use answers::Refusal;
@@ -57,7 +57,7 @@ fn carry(h: Header, verdict: VerdictCell, cells: &mut [i64], log: &mut [u64]) ->
     let size = planner::fill(h, log);
     runner::carry_words(&log[..size], cells);
     let length = publish(verdict, cells, log, size);
-    let rounds = headers::rounds_of(h);
+    let rounds = rounds::rounds_of(h);
     PlanReport { rounds, length }
 }
 

@@ -1,6 +1,6 @@
 // Larger networks through the engine: 32 yards in every method, 60 lanes in methods 1 and 4, 128 in method 3, 59 in method 5, and the figures of
 // their runs.
-// Rests on engine, lines and replies; tests/model has the same networks, and expects the same figures.
+// Rests on engine, listings and replies; tests/model has the same networks, and expects the same figures.
 use engine::Answer;
 use engine::Report;
 use libc::STDOUT_FILENO;
@@ -299,8 +299,8 @@ fn put_run(
     match answer {
         Answer::Ran(report) => {
             let next = put_figures(buffer, h, report, log);
-            let last = lines::put_rows(buffer, next, true, h, distances, parents);
-            lines::put_route(buffer, last, h, route)
+            let last = listings::put_rows(buffer, next, true, h, distances, parents);
+            listings::put_route(buffer, last, h, route)
         }
         Answer::NegativeCycle(report) => put_figures(buffer, h, report, log),
         Answer::Refused(_) => text::put_bytes(buffer, 0, b"refused\n"),

@@ -11,7 +11,7 @@ use plans::Header;
 use plans::Span;
 ghost use mathlib.Core.Path.{_≡_};
 ghost use Rattle.plans.specs.Limits.{knownMethod, mostEdges, sourceCount};
-ghost use Rattle.plans.specs.Plan.{headerOf, Accepted, roundsOfPlan};
+ghost use Rattle.plans.specs.Plan.{headerOf, Accepted};
 ghost use Rattle.answers.specs.Refusal.{found};
 ghost use Rattle.headers.specs.Refusal.{headerRefusal};
 ghost use Rattle.headers.specs.Figures.{Figured};
@@ -116,20 +116,5 @@ pub fn figures_of(h: Header) -> Figures
         3 => method3::figures(h),
         4 => method4::figures(h),
         _ => method5::figures(h),
-    }
-}
-
-// The rounds of the header's plan, and so of every run of it.
-pub fn rounds_of(h: Header) -> u64
-    requires { ⌜ Accepted h ⌝ }
-    ensures { λ r. ⌜ r ≡ roundsOfPlan h ⌝ }
-{
-    let method = h.method;
-    match method {
-        1 => method1::rounds(h),
-        2 => method2::rounds(h),
-        3 => method3::rounds(h),
-        4 => method4::rounds(h),
-        _ => method5::rounds(h),
     }
 }

@@ -1,11 +1,11 @@
-// Method 5: its figures and its rounds.
-// Rests on the header of plans, and on ops for the greater of two numbers.
+// Method 5: its figures.
+// Rests on the header of plans.
 use crate::Figures;
 use crate::VerdictCell;
 use plans::Header;
 use plans::Span;
 ghost use mathlib.Core.Path.{_≡_};
-ghost use Rattle.plans.specs.Plan.{Accepted, roundsOfPlan};
+ghost use Rattle.plans.specs.Plan.{Accepted};
 ghost use Rattle.headers.specs.Figures.{figuresOf};
 
 pub fn figures(h: Header) -> Figures
@@ -33,14 +33,3 @@ pub fn figures(h: Header) -> Figures
 }
 
 // The check or the route is the deeper one.
-pub fn rounds(h: Header) -> u64
-    requires { ⌜ Accepted h × (h .method ≡ 5) ⌝ }
-    ensures { λ r. ⌜ r ≡ roundsOfPlan h ⌝ }
-{
-    let n = h.vertices;
-    let m = h.edges;
-    if m == 0 {
-        return ops::greater(2, n * n + 5 * n - 5);
-    }
-    m * ((n - 1) * (n + 9)) + ops::greater(m * n + n + 16, m + n * n + 5 * n + 1)
-}

@@ -1,3 +1,1 @@
-pub mod Repeated
 pub mod Left
-pub mod Methods

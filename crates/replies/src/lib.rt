@@ -1,5 +1,5 @@
 // The text of an answer, and of a run's log, in a lent buffer.
-// Rests on answers, engine, lines and text.
+// Rests on answers, engine, listings and text.
 use answers::Place;
 use engine::Answer;
 use engine::Report;
@@ -28,8 +28,8 @@ fn put_results(
 {
     let line = [h.method, h.vertices, h.edges, h.source, r.rounds, r.verdict];
     let next = text::put_numbers(buffer, 0, &line);
-    let last = lines::put_rows(buffer, next, all, h, distances, parents);
-    lines::put_route(buffer, last, h, route)
+    let last = listings::put_rows(buffer, next, all, h, distances, parents);
+    listings::put_route(buffer, last, h, route)
 }
 
 // `refused number place`
@@ -70,8 +70,8 @@ pub fn put_log(buffer: &mut [u8], answer: Answer, log: &[u64]) -> usize
     ensures { λ n. ⌜ Put 139264 (toldLog (toldByRun answer) (now (log .entry))) (now (buffer .entry)) (now (buffer .exit)) 0 n ⌝ }
 {
     match answer {
-        Answer::Ran(report) => lines::put_words(buffer, log, report.log_length),
-        Answer::NegativeCycle(report) => lines::put_words(buffer, log, report.log_length),
+        Answer::Ran(report) => listings::put_words(buffer, log, report.log_length),
+        Answer::NegativeCycle(report) => listings::put_words(buffer, log, report.log_length),
         Answer::Refused(refusal) => put_refusal(buffer, refusal.number, refusal.place_of()),
     }
 }

@@ -12,7 +12,7 @@ use Rattle.answers.specs.declared.Refusal.{Refusal}
 use Rattle.answers.specs.Refusal.{Log, Operation}
 use Rattle.machine.specs.Log.{Admitted, cellsAfter, logOf}
 use Rattle.machine.proofs.Replayed.{charge-log}
-use Rattle.charge.specs.Worked.{WorkedOut}
+use Rattle.deepening.specs.Worked.{WorkedOut}
 use Rattle.runner.specs.declared.PlanAnswer.the-variants.{Ran, Refused}
 use Rattle.runner.specs.declared.Found.the-variants.{At, Nothing}
 use Rattle.runner.specs.Runner.{firstBad, foundOf, logSize, runnerRefusal, CarriedOut, planOutcome, MetPlan}

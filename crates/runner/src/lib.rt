@@ -5,7 +5,7 @@ ghost use mathlib.Core.Path.{_≡_};
 ghost use Prim.Native.Nat.{_^_, _≤_};
 ghost use lib.ListN.{length, drop};
 ghost use Rattle.machine.specs.Log.{Admitted, cellsAfter, logOf};
-ghost use Rattle.charge.specs.Worked.{WorkedOut};
+ghost use Rattle.deepening.specs.Worked.{WorkedOut};
 ghost use Rattle.runner.specs.Runner.{badAt, firstBad, foundOf, logSize, CarriedOut, planOutcome, MetPlan};
 
 // What a run of a plan answers: its rounds, and the words of its log.

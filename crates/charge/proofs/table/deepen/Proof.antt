@@ -1,4 +1,4 @@
--- `charge::table::deepen` meets its contract. Rests on Words, Deepening and lists' Sets.
+-- `charge::table::deepen` meets its contract. Rests on deepening's Words and Deepening, and lists' Sets.
 use borrow.Author.Needs.{needs}
 use Prim.Native.Nat.{_+_, _<_, _≤_, _^_}
 use native.Mathlib.Omega.{arith}
@@ -7,8 +7,8 @@ use lib.ListN.{length}
 use Rattle.lists.proofs.Sets.{set-at}
 use Rattle.machine.specs.Word.{admissibleAt}
 use Rattle.machine.proofs.Parted.{admitted-fields}
-use Rattle.charge.proofs.Words.{d-there, deepens-open, deepens-other}
-use Rattle.charge.proofs.Deepening.{by-most}
+use Rattle.deepening.proofs.Words.{d-there, deepens-open, deepens-other}
+use Rattle.deepening.proofs.Deepening.{by-most}
 use Rattle.charge.proofs.table.deepen.Statement.{statement}
 use Rattle.charge.proofs.table.deepen.Tie as tie
 

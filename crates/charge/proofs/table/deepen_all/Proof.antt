@@ -1,11 +1,11 @@
--- `charge::table::deepen_all` meets its contract: before word k, the depths so far. Rests on Deepening.
+-- `charge::table::deepen_all` meets its contract: before word k, the depths so far. Rests on deepening's Deepening.
 use borrow.Author.Needs.{needs}
 use mathlib.Core.Path.{_≡_, refl, _∙_}
 use Prim.Native.Nat.{_-_}
 use native.Mathlib.Omega.{arith}
 use lib.ListN.{length}
 use Rattle.charge.specs.Table.{depthsIn}
-use Rattle.charge.proofs.Deepening.{Deepening, can, start, next, bounded, done}
+use Rattle.deepening.proofs.Deepening.{Deepening, can, start, next, bounded, done}
 use Rattle.charge.proofs.table.deepen_all.Statement.{statement}
 use Rattle.charge.proofs.table.deepen_all.Tie as tie
 

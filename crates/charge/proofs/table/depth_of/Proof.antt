@@ -1,9 +1,9 @@
--- `charge::table::depth_of` meets its contract. Rests on Words.
+-- `charge::table::depth_of` meets its contract. Rests on deepening's Words.
 use Prim.Native.Nat.{_<_}
 use native.Mathlib.Omega.{arith}
 use lib.ListN.{length}
 use Rattle.machine.proofs.Admitted.{op-below}
-use Rattle.charge.proofs.Words.{of-set, of-other, all-there}
+use Rattle.deepening.proofs.Words.{of-set, of-other, all-there}
 use Rattle.charge.proofs.table.depth_of.Statement.{statement}
 use Rattle.charge.proofs.table.depth_of.Tie as tie
 
