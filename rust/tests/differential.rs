@@ -1,5 +1,6 @@
 //! Compares the library with an independent implementation of the rules.
 
+mod across;
 mod chains;
 mod conversion;
 mod generator;
@@ -75,6 +76,12 @@ fn compare(request: &[u64], lent: Buffers) -> (Outcome, Buffers) {
         judge(request, &outcome, &ours);
     }
     (outcome, ours)
+}
+
+/// The same on drawn buffers, with enough room.
+fn compared(random: &mut Random, request: &[u64]) -> (Outcome, Buffers) {
+    let lent = buffers(random, request[0]);
+    compare(request, lent)
 }
 
 /// Judges the rounds by the log that was left alone, on that many cells.
@@ -304,8 +311,7 @@ fn routes_of_every_shape() {
     for _ in 0..20_000 {
         let (n, m) = (1 + random.below(8), random.below(16));
         let request = request(&mut random, 5, n, m);
-        let lent = buffers(&mut random, request[0]);
-        let (outcome, left) = compare(&request, lent);
+        let (outcome, left) = compared(&mut random, &request);
         for shape in shapes::of(&request, &outcome, &left) {
             *seen.get_mut(shape).expect("a known shape") += 1;
         }
@@ -319,15 +325,14 @@ fn routes_of_every_shape() {
 #[test]
 fn routes_to_every_vertex() {
     let mut random = Random::new(SEED + 14);
-    let mut compared = 0;
+    let mut routes = 0;
     for _ in 0..1000 {
         let (n, m) = (1 + random.below(6), random.below(13));
         let mut routed = request(&mut random, 5, n, m);
         let mut plain = routed.clone();
         plain.pop();
         plain[0] = pack(1, n, m, Public::read(routed[0]).source);
-        let lent = buffers(&mut random, plain[0]);
-        let (outcome, left) = compare(&plain, lent);
+        let (outcome, left) = compared(&mut random, &plain);
         let mut logs = HashSet::new();
         for destination in 0..n {
             routed[1 + m as usize] = destination;
@@ -340,11 +345,11 @@ fn routes_to_every_vertex() {
             assert_eq!(routed_left.parents, left.parents);
             let length = with_route.values[1] as usize;
             logs.insert(routed_left.log[..length].to_vec());
-            compared += 1;
+            routes += 1;
         }
         assert_eq!(logs.len(), 1);
     }
-    println!("{compared} routes beside method 1");
+    println!("{routes} routes beside method 1");
 }
 
 /// Too short a route buffer is refused in method 5 alone, and in no method is
@@ -439,8 +444,7 @@ fn middle_requests() {
         let (n, m) = (7 + random.below(8), random.below(40));
         let method = random.one_of(&METHODS);
         let request = request(&mut random, method, n, m);
-        let lent = buffers(&mut random, request[0]);
-        compare(&request, lent);
+        compared(&mut random, &request);
     }
 }
 
@@ -456,8 +460,7 @@ fn full_size_requests() {
     ] {
         for _ in 0..runs {
             let request = request(&mut random, method, 32, 128);
-            let lent = buffers(&mut random, request[0]);
-            let (outcome, _) = compare(&request, lent);
+            let (outcome, _) = compared(&mut random, &request);
             assert_eq!(outcome.values[..2], [rounds, words]);
         }
     }

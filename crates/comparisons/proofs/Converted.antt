@@ -16,11 +16,11 @@ use Rattle.plans.proofs.Headers.{source-below}
 use Rattle.limits.specs.WithinLimits.{headerIn, wordsIn}
 use Rattle.graph.specs.Walk.{Edge, Network, Below}
 use Rattle.graph.specs.Shortest.{Distances, Shortest}
-use Rattle.graph.specs.Reweighed.{Reweighed, scaled}
+use Rattle.graph.specs.Reweighed.{Reweighed, Becomes, scaled}
 use Rattle.graph.proofs.Int.{arithℤ, abs}
 use Rattle.graph.proofs.Product.{times-abs}
 use Rattle.graph.proofs.Distances.{no-cycle, distance-within, one-row}
-use Rattle.graph.proofs.Reweighed.{Becomes, scaled-distances, scaled-shortest}
+use Rattle.graph.proofs.Reweighed.{scaled-distances, scaled-shortest}
 use Rattle.saved.specs.Saved.{oldFar, conversionOutcome}
 use Rattle.saved.specs.Converts.{OfOld, AllOfOld}
 use Rattle.saved.proofs.Converts.{converts}
@@ -31,9 +31,9 @@ use Rattle.demands.proofs.Ran.{allowed, leaves}
 use Rattle.demands.proofs.Taken.{weights-most}
 use Rattle.demands.proofs.Sources.{row-by-row, source-inside}
 use Rattle.demands.proofs.Theorems.{demand1, demand2}
-use Rattle.comparisons.specs.Hundredfold.{Hundredfold}
+use Rattle.comparisons.specs.Repriced.{Hundredfold}
 use Rattle.comparisons.specs.Converted.{DistancesOf, ShortestOf, Agrees, ConvertedAgrees, ConvertedShortest}
-use Rattle.comparisons.proofs.Hundredfold.{networks, namings}
+use Rattle.comparisons.proofs.Repriced.{networks, namings}
 
 -- ---- one network, and the one with every weight a hundredfold, within today's limit
 
@@ -108,7 +108,7 @@ module _ (request request′ : List ℕ) (lent′ : Lent) (like : Hundredfold re
       subst (λ (x : Header). resultsOf x distances .count ≡ length (sourcesOf x) * x .vertices) (like .header) (demand2 request′ lent′ .rows ran)
 
   hundredfold : Reweighed (scaled 100) (networkOf h ws) (networkOf h ws′)
-  hundredfold = networks h accepted ws ws′ (like .word)
+  hundredfold = networks (scaled 100) h accepted ws ws′ (like .words)
 
   module _ (saved : List ℤ) where
     -- ---- rows
@@ -175,7 +175,7 @@ module _ (request request′ : List ℕ) (lent′ : Lent) (like : Hundredfold re
         (scaled-shortest 100 (networkOf h ws) (networkOf h ws′) hundredfold oldFar far n (h .source) _ _
         (becomes (networkOf h ws) (networkOf h ws′) hundredfold n (accepted .vertices-few) below′ weights′ (h .source) inside _ (old .distances)
         saved all (λ v. v) (λ v l. omega (arith, long)) (λ v. refl))
-        (namingOf h ws) (namingOf h ws′) (namings h accepted ws ws′ (like .word)) parent old)
+        (namingOf h ws) (namingOf h ws′) (namings (scaled 100) h accepted ws ws′ (like .words)) parent old)
 
 pub converted-agrees : ConvertedAgrees
 converted-agrees request request′ lent′ like ran saved long old = agrees request request′ lent′ like ran saved long old

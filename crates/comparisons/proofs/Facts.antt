@@ -1,35 +1,148 @@
--- The table of specs/Facts, by computing the definitions. Rests on the definitions alone else.
-use mathlib.Core.Path.{refl, ap}
+-- The table of specs/Facts, by computing the definitions. Rests on the definitions, and on the law that there is one least weight.
+use mathlib.Core.Path.{_≡_, refl, ap}
+use mathlib.Core.Logic.{_↔_, _≢_}
 use mathlib.Core.List.{[], _∷_}
-use Prim.Native.Nat.{ℕ, zero, suc, _<_}
+use mathlib.Core.Option.{Option, none, some}
+use Prim.Native.Nat.{ℕ, zero, suc, _+_, _*_, _<_}
 use native.Mathlib.Omega.{arith}
-use lib.IntN.{natAbs}
+use lib.IntN.{ℤ, pos, natAbs}
+use lib.Signed.{_≤ℤ_}
 use lib.ListN.{getD}
 use Rattle.fields.specs.Fields.{signedOf}
 use Rattle.limits.specs.Word.{weightOf}
-use Rattle.comparisons.specs.Hundredfold.{EdgeHundredfold, EntryHundredfold}
-use Rattle.comparisons.specs.Facts.{Facts}
+use Rattle.limits.specs.WithinLimits.{wordsIn}
+use Rattle.graph.specs.Walk.{Edge}
+use Rattle.graph.specs.Reweighed.{Weighed, scaled, moved}
+use Rattle.graph.specs.LeastWeight.{between}
+use Rattle.graph.proofs.Int.{arithℤ}
+use Rattle.graph.proofs.LeastWeight.{same-least}
+use Rattle.demands.specs.Network.{edgeOf, networkOf}
+use Rattle.comparisons.specs.Repriced.{EntryRepriced}
+use Rattle.comparisons.specs.Totals.{LeastPrice, SamePrices}
+use Rattle.comparisons.specs.Facts.{lanes, table, ofYards, Facts}
+use Rattle.comparisons.proofs.Repriced.{entry-hundredfold}
 
-lane : (i : ℕ) → i < 1 → EdgeHundredfold (getD (0x00010000FFFFFFFB ∷ []) i 0) (getD (0x00010000FFFFFE0C ∷ []) i 0)
-unfolding weightOf signedOf
-lane zero l = record { from = refl; to = refl; weight = refl }
-lane (suc i) l = let no : ⊥ = omega arith in absurd no
+-- ---- what holds of each number below 1, 2 and 3
 
-entries : (i : ℕ) → i < 4
-    → EntryHundredfold (getD (0 ∷ 0x00000000FFFFFFFF ∷ 7 ∷ 0x00000000000F4240 ∷ []) i 0) (getD (0 ∷ 0x00000000FFFFFFFF ∷ 700 ∷ 0x0000000005F5E100 ∷ []) i 0)
+of-one : (P : ℕ → Type 0) → P 0 → (i : ℕ) → i < 1 → P i
+of-one P p zero l = p
+of-one P p (suc i) l = let no : ⊥ = omega arith in absurd no
+
+of-two : (P : ℕ → Type 0) → P 0 → P 1 → (i : ℕ) → i < 2 → P i
+of-two P p q zero l = p
+of-two P p q (suc zero) l = q
+of-two P p q (suc (suc i)) l = let no : ⊥ = omega arith in absurd no
+
+of-three : (P : ℕ → Type 0) → P 0 → P 1 → P 2 → (i : ℕ) → i < 3 → P i
+of-three P p q r zero l = p
+of-three P p q r (suc zero) l = q
+of-three P p q r (suc (suc zero)) l = r
+of-three P p q r (suc (suc (suc i))) l = let no : ⊥ = omega arith in absurd no
+
+pairs : (P : ℕ → ℕ → Type 0) → P 0 0 → P 0 1 → P 1 0 → P 1 1 → (u v : ℕ) → u < 2 → v < 2 → P u v
+pairs P a b c d u v i j = of-two (λ u. P u v) (of-two (P 0) a b v j) (of-two (P 1) c d v j) u i
+
+-- ---- requests with other prices
+
+entries : (u v : ℕ) → u < 2 → v < 2
+    → EntryRepriced (scaled 100) u v (getD (0 ∷ 0x00000000FFFFFFFF ∷ 7 ∷ 0x00000000000F4240 ∷ []) (u * 2 + v) 0)
+    (getD (0 ∷ 0x00000000FFFFFFFF ∷ 700 ∷ 0x0000000005F5E100 ∷ []) (u * 2 + v) 0)
 unfolding weightOf signedOf
-entries zero l = record { no-edge = λ e. absurd (omega (arith, ap natAbs e)); weight = λ ne. refl }
-entries (suc zero) l = record { no-edge = λ e. refl; weight = λ ne. absurd (ne refl) }
-entries (suc (suc zero)) l = record { no-edge = λ e. absurd (omega (arith, ap natAbs e)); weight = λ ne. refl }
-entries (suc (suc (suc zero))) l = record { no-edge = λ e. absurd (omega (arith, ap natAbs e)); weight = λ ne. refl }
-entries (suc (suc (suc (suc i)))) l = let no : ⊥ = omega arith in absurd no
+entries =
+    pairs
+    (λ u v. EntryRepriced (scaled 100) u v (getD (0 ∷ 0x00000000FFFFFFFF ∷ 7 ∷ 0x00000000000F4240 ∷ []) (u * 2 + v) 0)
+    (getD (0 ∷ 0x00000000FFFFFFFF ∷ 700 ∷ 0x0000000005F5E100 ∷ []) (u * 2 + v) 0))
+    (entry-hundredfold 0 0 0 0 (λ e. absurd (omega (arith, ap natAbs e))) (λ ne. refl))
+    (entry-hundredfold 0 1 0x00000000FFFFFFFF 0x00000000FFFFFFFF (λ e. refl) (λ ne. absurd (ne refl)))
+    (entry-hundredfold 1 0 7 700 (λ e. absurd (omega (arith, ap natAbs e))) (λ ne. refl))
+    (entry-hundredfold 1 1 0x00000000000F4240 0x0000000005F5E100 (λ e. absurd (omega (arith, ap natAbs e))) (λ ne. refl))
+
+no-entry : (f : Edge → ℤ) (u v : ℕ) → EntryRepriced f u v 0x00000000FFFFFFFF 0x00000000FFFFFFFF
+unfolding weightOf signedOf
+no-entry f u v = record { no-edge = (λ e. refl, λ e. refl); weight = λ ne. absurd (ne refl) }
+
+moved-entry : EntryRepriced (moved (ofYards (pos 10) (pos 3))) 0 1 7 14
+unfolding weightOf signedOf
+moved-entry = record { no-edge = (λ e. absurd (omega (arith, ap natAbs e)), λ e. absurd (omega (arith, ap natAbs e))); weight = λ ne. refl }
+
+-- ---- least prices
+
+least : LeastPrice lanes 0 1 (some (pos 7)) × LeastPrice lanes 1 0 none
+unfolding networkOf weightOf signedOf
+least = (
+  (
+    (1, omega arith, refl),
+    λ x real.
+        of-three (λ i. between 0 1 x ≡ edgeOf (wordsIn lanes) i → pos 7 ≤ℤ x)
+        (λ q. omega (arithℤ, ap (λ (e : Edge). e .weight) q))
+        (λ q. omega (arithℤ, ap (λ (e : Edge). e .weight) q))
+        (λ q. absurd (omega (arith, ap (λ (e : Edge). e .from) q)))
+        (real .0) (real .1) (real .2),
+  ),
+  λ w real.
+      of-three (λ i. between 1 0 w ≢ edgeOf (wordsIn lanes) i)
+      (λ q. omega (arith, ap (λ (e : Edge). e .from) q))
+      (λ q. omega (arith, ap (λ (e : Edge). e .from) q))
+      (λ q. omega (arith, ap (λ (e : Edge). e .to) q))
+      (real .0) (real .1) (real .2),
+)
+
+entry : LeastPrice (table 7) 0 1 (some (pos 7)) × LeastPrice (table 7) 1 0 none
+unfolding networkOf weightOf signedOf
+entry = (
+  (
+    record { from-there = omega arith; to-there = omega arith; entered = λ e. omega (arith, ap natAbs e); weighs = refl },
+    λ x real. omega (arithℤ, real .weighs),
+  ),
+  λ w real. real .entered refl,
+)
+
+-- What the least price from 0 to 1 would have to be.
+apart : (price : ℕ) → SamePrices lanes (table price) → LeastPrice (table price) 0 1 (some (pos 7))
+apart price p = p .least 0 1 (omega arith) (omega arith) (λ e. omega arith) (some (pos 7)) .0 (least .0)
 
 pub facts : Facts
-unfolding weightOf signedOf
+unfolding networkOf weightOf signedOf
 facts =
     record {
-      printed = record { header = refl; word = lane };
-      table = record { header = refl; word = entries };
-      no-lane = λ p. omega (arith, ap natAbs (p .word 0 (omega arith) .no-edge refl));
-      ends = λ p. omega (arith, p .word 0 (omega arith) .from);
+      printed = record {
+        header = refl;
+        words = of-one (λ i. Weighed (scaled 100) (edgeOf (0x00010000FFFFFFFB ∷ []) i) (edgeOf (0x00010000FFFFFE0C ∷ []) i))
+            (record { begins = refl; ends = refl; weighs = refl });
+      };
+      hundredths = record { header = refl; words = entries };
+      no-lane = λ p. omega (arith, ap natAbs (p .words 0 0 (omega arith) (omega arith) .no-edge .0 refl));
+      ends = λ p. omega (arith, p .words 0 (omega arith) .begins);
+      least = least;
+      entry = entry;
+      agree = record {
+        vertices = refl;
+        least =
+            pairs (λ u v. u ≢ v → (w : Option ℤ) → LeastPrice lanes u v w ↔ LeastPrice (table 7) u v w)
+            (λ ne. absurd (ne refl))
+            (λ ne. same-least _ _ 0 1 (some (pos 7)) (least .0) (entry .0))
+            (λ ne. same-least _ _ 1 0 none (least .1) (entry .1))
+            (λ ne. absurd (ne refl));
+      };
+      greater = λ p. omega (arith, ap natAbs (apart 9 p .0 .weighs));
+      missing = λ p. apart 0x00000000FFFFFFFF p .0 .entered refl;
+      fees = record {
+        header = refl;
+        words =
+            of-two
+            (λ i. Weighed (moved (ofYards (pos 10) (pos 3))) (edgeOf (0x0001000000000007 ∷ 0x0100000000000005 ∷ []) i)
+            (edgeOf (0x000100000000000E ∷ 0x01000000FFFFFFFE ∷ []) i))
+            (record { begins = refl; ends = refl; weighs = refl })
+            (record { begins = refl; ends = refl; weighs = refl });
+      };
+      turned = λ p. omega (arith, ap natAbs (p .words 0 (omega arith) .weighs));
+      fees-of-table = record {
+        header = refl;
+        words =
+            pairs
+            (λ u v. EntryRepriced (moved (ofYards (pos 10) (pos 3))) u v (getD (wordsIn (table 7)) (u * 2 + v) 0)
+            (getD (wordsIn (table 14)) (u * 2 + v) 0))
+            (no-entry _ 0 0) moved-entry (no-entry _ 1 0) (no-entry _ 1 1);
+      };
+      lost = λ p. omega (arith, ap natAbs (p .words 0 1 (omega arith) (omega arith) .no-edge .1 refl));
     }

@@ -1,3 +1,7 @@
-pub mod Facts
-pub mod Hundredfold
+pub mod Repriced
 pub mod Converted
+pub mod Rows
+pub mod Prices
+pub mod Totals
+pub mod Fees
+pub mod Facts

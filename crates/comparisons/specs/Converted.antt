@@ -14,7 +14,7 @@ use Rattle.saved.specs.Saved.{oldFar, conversionOutcome}
 use Rattle.demands.specs.Run.{Lent}
 use Rattle.demands.specs.Network.{networkOf, namingOf, sourcesOf}
 use Rattle.demands.specs.Demands.{RanOn, verdictTold, resultOf}
-use Rattle.comparisons.specs.Hundredfold.{Hundredfold}
+use Rattle.comparisons.specs.Repriced.{Hundredfold}
 
 -- The words are a request's distances, a row for each source, with this mark for an unreached vertex; and those of its one row, with parents.
 module _ (mark : ℤ) (request : List ℕ) (words : List ℤ) where

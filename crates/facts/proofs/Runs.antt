@@ -1,4 +1,4 @@
--- The tables of specs/Corners, Sorted, Routed and Tabled, by computing the definitions. Rests on those alone.
+-- The tables of specs/Corners, Sorted, Routed, Tabled and Compared, by computing the definitions. Rests on those alone.
 use mathlib.Core.Path.{refl}
 use Rattle.fields.specs.Fields.{signedOf, bitsOf}
 use Rattle.machine.specs.Effect.{bit, wrapAdd, both, pick, perform}
@@ -22,8 +22,9 @@ use Rattle.facts.specs.Corners.{Corners}
 use Rattle.facts.specs.Sorted.{Sorted}
 use Rattle.facts.specs.Routed.{Routed}
 use Rattle.facts.specs.Tabled.{Tabled}
+use Rattle.facts.specs.Compared.{Compared}
 
-runs : Corners × Sorted × Routed × Tabled
+runs : Corners × Sorted × Routed × Tabled × Compared
 unfolding signedOf bitsOf bit wrapAdd both pick perform packed packedSet decodeAt zerosKept present admissibleAt carry logged cellsAfter logFrom logOf withoutPublishedFrom withoutPublished greatestFrom decodeAll depthOf chargeOf flat instructions Method1.plan Method2.plan Method3.plan Method4.plan Method5.plan instructionsOf planOf cellsOf resultsOf lengthOf headerRefusal weightOf wordCountOf logLengthOf verdictCell sizesRefusal inRange edgeRefusal sortedRefusal entryRefusal wordRefusal wordsRefusal lastRefusal requestRefusal stripsOf sourceOf laid startingCells verdictOf copied outcome
 runs = (
   record {
@@ -71,6 +72,16 @@ runs = (
     loops =
         (refl, record { answers = refl; table = refl; parents = refl }, record { answers = refl; table = refl; parents = refl });
   },
+  record {
+    method-1 = refl;
+    method-2 = refl;
+    method-3 = refl;
+    method-4 = refl;
+    method-5 = refl;
+    moved-1 = refl;
+    moved-2 = refl;
+    moved-4 = refl;
+  },
 )
 
 pub corners : Corners
@@ -84,3 +95,6 @@ routed = runs .2
 
 pub tabled : Tabled
 tabled = runs .3
+
+pub compared : Compared
+compared = runs .4

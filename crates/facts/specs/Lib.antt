@@ -2,4 +2,5 @@ pub mod Corners
 pub mod Sorted
 pub mod Routed
 pub mod Tabled
+pub mod Compared
 pub mod Rules

@@ -1,7 +1,7 @@
--- What distances say of walks: one to a vertex reaches it, the source's distance is 0, there is no negative cycle; how large they are; and that
--- there is one row of them. Rests on walks and on the integer kit.
+-- What distances say of walks: one to a vertex reaches it, the source's distance is 0, there is no negative cycle; how large they are; how those of
+-- two networks compare by their walks, so that a network has one row of them. Rests on walks and on the integer kit.
 use mathlib.Core.Path.{_≡_, refl, sym, ap, _∙_}
-use mathlib.Core.Logic.{_≢_}
+use mathlib.Core.Logic.{_↔_, _≢_}
 use mathlib.Core.List.{List, [], _∷_, _++_}
 use Prim.Native.Nat.{ℕ, _-_, _*_, _<_, _≤_}
 use native.Mathlib.Omega.{arith}
@@ -9,6 +9,7 @@ use lib.IntN.{ℤ, pos, natAbs, ℤ-discrete}
 use lib.Signed.{_≤ℤ_}
 use Rattle.graph.specs.Walk.{Edge, Network, Chain, total, Walk, NegativeCycle, Below}
 use Rattle.graph.specs.Shortest.{Distances}
+use Rattle.graph.specs.Reweighed.{Becomes}
 use Rattle.graph.proofs.Int.{arithℤ, sum}
 use Rattle.graph.proofs.Walk.{total-append, chain-append, short}
 
@@ -53,14 +54,48 @@ module _ (net : Network) (far : ℤ) (n s : ℕ) (dist : ℕ → ℤ) (d : Dista
       let same : total (t .0) ≡ dist v = omega (arithℤ, t .2, r .1 .sums, r .1 .least (t .0) (t .1)) in
       omega (arith, ap natAbs same, t .3)
 
+-- Where each walk has in the other network one to the same vertex, of its total turned by G or less, and the other way round, distances are turned by G.
+pub carried : (net net′ : Network) (far far′ : ℤ) (n s : ℕ) (dist dist′ : ℕ → ℤ) (G : ℕ → ℤ → ℤ) → ((v : ℕ) (a b : ℤ) → a ≤ℤ b → G v a ≤ℤ G v b)
+    → ((v : ℕ) (es : List Edge) → Chain net s es v → (es′ : List Edge) × Chain net′ s es′ v × (total es′ ≤ℤ G v (total es)))
+    → ((v : ℕ) (es′ : List Edge) → Chain net′ s es′ v → (es : List Edge) × Chain net s es v × (G v (total es) ≤ℤ total es′))
+    → Distances net far n s dist → Distances net′ far′ n s dist′ → Becomes G far far′ n dist dist′
+carried net net′ far far′ n s dist dist′ G mono forth home d d′ =
+    record {
+      blank = λ v l e. d′ .unreached v l .1 (λ w. let r = home v (w .0) (w .1) in d .unreached v l .0 e (r .0, r .1));
+      each = λ v l ne.
+          let p = d .reached v l ne in
+          let there = forth v (p .0) (p .1 .leads) in
+          let q = d′ .reached v l (has-walk net′ far′ n s dist′ d′ v l (there .0, there .1)) in
+          let back = home v (q .0) (q .1 .leads) in
+          omega (
+            arithℤ,
+            q .1 .least (there .0) (there .1),
+            there .2,
+            ap (G v) (p .1 .sums),
+            mono v (dist v) (total (back .0)) (p .1 .least (back .0) (back .1)),
+            back .2,
+            q .1 .sums,
+          );
+      apart = λ v l ne.
+          let p = d .reached v l ne in
+          let there = forth v (p .0) (p .1 .leads) in
+          has-walk net′ far′ n s dist′ d′ v l (there .0, there .1);
+    }
+
+pub both-unreached : (G : ℕ → ℤ → ℤ) (far far′ : ℤ) (n : ℕ) (dist dist′ : ℕ → ℤ) → Becomes G far far′ n dist dist′
+    → (v : ℕ) → v < n → (dist v ≡ far) ↔ (dist′ v ≡ far′)
+both-unreached G far far′ n dist dist′ to v l = (
+  to .blank v l,
+  λ e. elim (ℤ-discrete (dist v) far) [ yes q ↦ q | no q ↦ absurd (to .apart v l q e) ],
+)
+
+-- Turned by nothing, and with one mark, they are the same.
+pub unturned : (far : ℤ) (n : ℕ) (dist dist′ : ℕ → ℤ) → Becomes (λ v t. t) far far n dist dist′ → (v : ℕ) → v < n → dist′ v ≡ dist v
+unturned far n dist dist′ to v l = elim (ℤ-discrete (dist v) far) [ yes e ↦ to .blank v l e ∙ sym e | no ne ↦ to .each v l ne ]
+
 -- A network has one row of distances.
 pub one-row : (net : Network) (far : ℤ) (n s : ℕ) (dist dist′ : ℕ → ℤ) → Distances net far n s dist → Distances net far n s dist′
     → (v : ℕ) → v < n → dist′ v ≡ dist v
-one-row net far n s dist dist′ d d′ v l =
-    elim (ℤ-discrete (dist v) far) [
-      | yes e ↦ d′ .unreached v l .1 (d .unreached v l .0 e) ∙ sym e
-      | no ne ↦
-          let p = d .reached v l ne in
-          let q = d′ .reached v l (has-walk net far n s dist′ d′ v l (p .0, p .1 .leads)) in
-          omega (arithℤ, p .1 .sums, q .1 .sums, p .1 .least (q .0) (q .1 .leads), q .1 .least (p .0) (p .1 .leads))
-    ]
+one-row net far n s dist dist′ d d′ =
+    unturned far n dist dist′
+    (carried net net far far n s dist dist′ (λ v t. t) (λ v a b k. k) (λ v es c. (es, c, omega arithℤ)) (λ v es c. (es, c, omega arithℤ)) d d′)

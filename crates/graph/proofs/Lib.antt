@@ -1,5 +1,5 @@
--- The theorems on Bellman-Ford, in place and by Jacobi passes, on Dijkstra, on Floyd-Warshall, on routes and on other weights, and what they rest
--- on, in order.
+-- The theorems on Bellman-Ford, in place and by Jacobi passes, on Dijkstra, on Floyd-Warshall, on routes, on other weights and on least
+-- weights, and what they rest on, in order.
 -- Rests on the definitions.
 pub mod Int
 pub mod Pigeon
@@ -20,3 +20,4 @@ pub mod Marks
 pub mod Route
 pub mod Product
 pub mod Reweighed
+pub mod LeastWeight

@@ -1,9 +1,10 @@
--- Products of integers for `omega`: a `times c a` listed for each pos c *ℤ a that occurs. Rests on the integer kit.
+-- Products and differences of integers for `omega`: a `times c a` listed for each pos c *ℤ a that occurs, a `minus a b` for each a -ℤ b.
+-- Rests on the integer kit.
 use mathlib.Core.Path.{_≡_, refl, ap}
 use Prim.Native.Nat.{ℕ, zero, suc, _+_, _*_}
 use native.Mathlib.Omega.{arith}
 use native.Mathlib.Nat.{mul-add, mul-le-mul-left}
-use lib.IntN.{ℤ, pos, negsuc, negℤ, natAbs, _+ℤ_, _*ℤ_}
+use lib.IntN.{ℤ, pos, negsuc, negℤ, natAbs, _+ℤ_, _-ℤ_, _*ℤ_}
 use lib.Signed.{_≤ℤ_}
 use Rattle.graph.proofs.Int.{up, dn, arithℤ, sum, abs, le-ℕ}
 
@@ -11,6 +12,9 @@ negated : (a : ℤ) → (up (negℤ a) ≡ dn a) × (dn (negℤ a) ≡ up a)
 negated (pos zero) = (refl, refl)
 negated (pos (suc n)) = (refl, refl)
 negated (negsuc n) = (refl, refl)
+
+pub minus : (a b : ℤ) → up (a -ℤ b) + dn a + up b ≡ up a + dn b + dn (a -ℤ b)
+minus a b = omega (arith, sum a (negℤ b), negated b .0, negated b .1)
 
 pub times : (c : ℕ) (a : ℤ) → (up (pos c *ℤ a) ≡ c * up a) × (dn (pos c *ℤ a) ≡ c * dn a)
 times c (pos n) = (refl, omega arith)

@@ -1,17 +1,18 @@
--- Other weights, edge by edge, that turn the totals of walks along with them: the shortest walks stay. A factor is such.
--- Rests on walks and on products.
+-- Other weights, edge by edge, that turn the totals of walks along with them: the shortest walks stay. A factor is such, and so are moved fees.
+-- Rests on distances and on products.
 use mathlib.Core.Path.{_≡_, refl, sym, ap, _∙_, subst}
-use mathlib.Core.Logic.{_↔_, _≢_}
+use mathlib.Core.Logic.{_↔_, _≢_, Iff·rfl}
 use mathlib.Core.List.{List, [], _∷_, _++_}
 use Prim.Native.Nat.{ℕ, _<_}
-use lib.IntN.{ℤ, pos, ℤ-discrete, _+ℤ_, _*ℤ_}
-use lib.Signed.{_≤ℤ_}
-use Rattle.graph.specs.Walk.{Edge, Network, Chain, total, Walk, Least}
+use lib.IntN.{ℤ, pos, _+ℤ_, _-ℤ_, _*ℤ_}
+use lib.Signed.{_≤ℤ_, _<ℤ_}
+use Rattle.graph.specs.Walk.{Edge, Network, Chain, total, Walk, Least, NegativeCycle}
 use Rattle.graph.specs.Shortest.{Naming, Leads, there, back, LastEdge, Distances, Shortest}
 use Rattle.graph.specs.BellmanFord.{network, numbered}
-use Rattle.graph.specs.Reweighed.{Weighed, Reweighed, Renamed, scaled}
-use Rattle.graph.proofs.Int.{arithℤ}
-use Rattle.graph.proofs.Product.{times, times-sum, times-le}
+use Rattle.graph.specs.Reweighed.{Weighed, Reweighed, Renamed, Becomes, scaled, moved}
+use Rattle.graph.proofs.Int.{arithℤ, sum}
+use Rattle.graph.proofs.Product.{minus, times, times-sum, times-le}
+use Rattle.graph.proofs.Distances.{carried, both-unreached}
 
 same-edge : (e e′ : Edge) → e .from ≡ e′ .from → e .to ≡ e′ .to → e .weight ≡ e′ .weight → e ≡ e′
 same-edge e e′ from to weight = let q : record { from = e .from; to = e .to; weight = e .weight } ≡ e′ = rw (from, to, weight) in q
@@ -21,12 +22,6 @@ record Turns (f : Edge → ℤ) (F : ℕ → ℕ → ℤ → ℤ) : Type 0 where
   none : (u : ℕ) → F u u (pos 0) ≡ pos 0
   more : (e : Edge) (v : ℕ) (t : ℤ) → F (e .from) v (e .weight +ℤ t) ≡ f e +ℤ F (e .to) v t
   mono : (u v : ℕ) (a b : ℤ) → a ≤ℤ b → F u v a ≤ℤ F u v b
-
--- The mark of an unreached vertex becomes another, and each distance is turned by G, which makes no mark of it.
-pub record Becomes (G : ℕ → ℤ → ℤ) (far far′ : ℤ) (n : ℕ) (dist dist′ : ℕ → ℤ) : Type 0 where
-  pub blank : (v : ℕ) → v < n → dist v ≡ far → dist′ v ≡ far′
-  pub each : (v : ℕ) → v < n → dist v ≢ far → dist′ v ≡ G v (dist v)
-  pub apart : (v : ℕ) → v < n → dist v ≢ far → dist′ v ≢ far′
 
 module _ {f : Edge → ℤ} {F : ℕ → ℕ → ℤ → ℤ} (t : Turns f F) (net net′ : Network) (like : Reweighed f net net′) where
   -- ---- walks, both ways
@@ -90,6 +85,23 @@ module _ {f : Edge → ℤ} {F : ℕ → ℕ → ℤ → ℤ} (t : Turns f F) (n
   walks : (u v : ℕ) → Walk net u v ↔ Walk net′ u v
   walks u v = (λ w. let r = forth (w .0) u v (w .1) in (r .0, r .1), λ w. let r = home (w .0) u v (w .1) in (r .0, r .1))
 
+  -- ---- negative cycles
+
+  -- Where totals of closed walks stay negative, or not.
+  cycles : ((u : ℕ) (a : ℤ) → (a <ℤ pos 0) ↔ (F u u a <ℤ pos 0)) → (s : ℕ) → NegativeCycle net s ↔ NegativeCycle net′ s
+  cycles loss s = (
+    λ z.
+        let l = forth (z .lead) s (z .at) (z .leads) in
+        let r = forth (z .cycle) (z .at) (z .at) (z .closed) in
+        let lost = loss (z .at) (total (z .cycle)) .0 (z .negative) in
+        record { at = z .at; lead = l .0; leads = l .1; cycle = r .0; closed = r .1; negative = rw (r .2) lost },
+    λ z.
+        let l = home (z .lead) s (z .at) (z .leads) in
+        let r = home (z .cycle) (z .at) (z .at) (z .closed) in
+        let lost = rw (r .2) at (z .negative) in
+        record { at = z .at; lead = l .0; leads = l .1; cycle = r .0; closed = r .1; negative = loss (z .at) (total (r .0)) .1 lost },
+  )
+
   -- ---- least walks
 
   no-less : (u v : ℕ) (d : ℤ) → ((fs : List Edge) → Chain net u fs v → d ≤ℤ total fs) → (fs : List Edge) → Chain net′ u fs v → F u v d ≤ℤ total fs
@@ -100,14 +112,21 @@ module _ {f : Edge → ℤ} {F : ℕ → ℕ → ℤ → ℤ} (t : Turns f F) (n
       let r = forth es u v (p .leads) in
       (r .0, record { leads = r .1; sums = r .2 ∙ ap (F u v) (p .sums); least = no-less u v d (p .least) })
 
-  -- ---- distances and parents
+  -- ---- distances of both, and distances and parents turned
+
+  both : (far far′ : ℤ) (n s : ℕ) (dist dist′ : ℕ → ℤ) → Distances net far n s dist → Distances net′ far′ n s dist′
+      → Becomes (F s) far far′ n dist dist′
+  both far far′ n s dist dist′ =
+      carried net net′ far far′ n s dist dist′ (F s) (t .mono s)
+      (λ v es c. let r = forth es s v c in (r .0, r .1, omega (arithℤ, r .2)))
+      (λ v es c. let r = home es s v c in (r .0, r .1, omega (arithℤ, r .2)))
 
   module _ (far far′ : ℤ) (n s : ℕ) (dist dist′ : ℕ → ℤ) (to : Becomes (F s) far far′ n dist dist′) where
     near : (v : ℕ) → v < n → dist′ v ≢ far′ → dist v ≢ far
     near v l ne e = ne (to .blank v l e)
 
     marked : (v : ℕ) → v < n → dist′ v ≡ far′ → dist v ≡ far
-    marked v l e = elim (ℤ-discrete (dist v) far) [ yes q ↦ q | no q ↦ absurd (to .apart v l q e) ]
+    marked v l = both-unreached (F s) far far′ n dist dist′ to v l .1
 
     distances-turned : Distances net far n s dist → Distances net′ far′ n s dist′
     distances-turned d =
@@ -170,6 +189,42 @@ module _ (c : ℕ) (net net′ : Network) (like : Reweighed (scaled c) net net�
   pub scaled-shortest : (Names Names′ : Naming) → Renamed (scaled c) Names Names′ → (parent : ℕ → ℤ)
       → Shortest net Names far n s dist parent → Shortest net′ Names′ far′ n s dist′ parent
   scaled-shortest = shortest-turned (scaling c) net net′ like far far′ n s dist dist′ to
+
+-- ---- moved fees: a walk's total rises by the number of its first vertex less that of its last
+
+moving : (fee : ℕ → ℤ) → Turns (moved fee) (λ u v t. t +ℤ (fee u -ℤ fee v))
+moving fee =
+    record {
+      none = λ u. omega (arithℤ, minus (fee u) (fee u), sum (pos 0) (fee u -ℤ fee u));
+      more = λ e v t.
+          let a = fee (e .from) in
+          let b = fee (e .to) in
+          let c = fee v in
+          omega (
+            arithℤ,
+            minus a c,
+            minus a b,
+            minus b c,
+            sum (e .weight) t,
+            sum (e .weight +ℤ t) (a -ℤ c),
+            sum (e .weight) (a -ℤ b),
+            sum t (b -ℤ c),
+            sum (e .weight +ℤ (a -ℤ b)) (t +ℤ (b -ℤ c)),
+          );
+      mono = λ u v a b k. omega (arithℤ, sum a (fee u -ℤ fee v), sum b (fee u -ℤ fee v));
+    }
+
+module _ (fee : ℕ → ℤ) (net net′ : Network) (like : Reweighed (moved fee) net net′) where
+  -- A closed walk ends where it begins, and its total stays.
+  stays : (u : ℕ) (a : ℤ) → a +ℤ (fee u -ℤ fee u) ≡ a
+  stays u a = omega (arithℤ, minus (fee u) (fee u), sum a (fee u -ℤ fee u))
+
+  pub moved-cycles : (s : ℕ) → NegativeCycle net s ↔ NegativeCycle net′ s
+  moved-cycles = cycles (moving fee) net net′ like (λ u a. rw (stays u a) Iff·rfl)
+
+  pub moved-distances : (far far′ : ℤ) (n s : ℕ) (dist dist′ : ℕ → ℤ) → Distances net far n s dist → Distances net′ far′ n s dist′
+      → Becomes (λ v t. t +ℤ (fee s -ℤ fee v)) far far′ n dist dist′
+  moved-distances = both (moving fee) net net′ like
 
 -- ---- rows of edges that are alike
 

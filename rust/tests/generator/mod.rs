@@ -5,7 +5,8 @@ pub mod faults;
 use crate::reference::plan::{head, pack, Public};
 use crate::reference::{log_length, plan_words, Buffers};
 
-const MOST: i64 = 100_000_000;
+/// The highest weight.
+pub const MOST: i64 = 100_000_000;
 
 /// The methods that there are.
 pub const METHODS: [u64; 5] = [1, 2, 3, 4, 5];

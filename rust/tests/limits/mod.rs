@@ -1,14 +1,12 @@
 //! Requests of full size with weights at the limits, where totals come nearest
 //! to the mark of an unreached vertex.
 
-use crate::generator::{buffers, edge_word, Random, METHODS};
+use crate::generator::{edge_word, Random, METHODS, MOST};
 use crate::reference::plan::{head, pack, Public, FAR};
-use crate::reference::{Buffers, Outcome};
-use crate::{compare, SEED};
+use crate::{compared, SEED};
 
 const N: u64 = 32;
 const M: u64 = 128;
-const MOST: i64 = 100_000_000;
 /// The methods that have a list of edges.
 const LISTED: [u64; 4] = [1, 3, 4, 5];
 
@@ -30,11 +28,6 @@ fn table(weight: impl FnMut((u64, u64)) -> i64) -> Vec<u64> {
     let pairs = (0..N).flat_map(|tail| (0..N).map(move |head| (tail, head)));
     let entries = pairs.map(weight).map(|weight| u64::from(weight as u32));
     [pack(2, N, 0, 0)].into_iter().chain(entries).collect()
-}
-
-fn compared(random: &mut Random, request: &[u64]) -> (Outcome, Buffers) {
-    let lent = buffers(random, request[0]);
-    compare(request, lent)
 }
 
 /// The distances from vertex 0 of a request that runs.

@@ -4,18 +4,10 @@ mod stages;
 
 use std::collections::BTreeMap;
 
-use crate::generator::{buffers, edge_word, request, Random};
+use crate::generator::{edge_word, request, Random, MOST};
 use crate::reference::plan::{pack, FAR};
-use crate::reference::{Buffers, Outcome};
 use crate::shapes::tables;
-use crate::{compare, number, solved, SEED};
-
-const MOST: i64 = 100_000_000;
-
-fn compared(random: &mut Random, request: &[u64]) -> (Outcome, Buffers) {
-    let lent = buffers(random, request[0]);
-    compare(request, lent)
-}
+use crate::{compared, number, solved, SEED};
 
 #[test]
 fn tables_of_every_shape() {

@@ -1,8 +1,8 @@
 //! What method 4 forms on the way: its tables after each stage, and how far its
 //! sums and entries reach.
 
-use super::{request_of, MOST};
-use crate::generator::{buffers, edge_word, request, Random};
+use super::request_of;
+use crate::generator::{buffers, edge_word, request, Random, MOST};
 use crate::reference::graph::Graph;
 use crate::reference::plan::{Public, FAR};
 use crate::sums::{band, Carrier, HIGH};
