@@ -25,7 +25,7 @@ use Rattle.saved.specs.Saved.{oldFar, conversionOutcome}
 use Rattle.saved.specs.Converts.{OfOld, AllOfOld}
 use Rattle.saved.proofs.Converts.{converts}
 use Rattle.demands.specs.Run.{Lent}
-use Rattle.demands.specs.Network.{networkOf, namingOf, sourcesOf}
+use Rattle.demands.specs.Network.{networkOf, networkIn, namingOf, sourcesOf}
 use Rattle.demands.specs.Demands.{RanOn, resultOf}
 use Rattle.demands.proofs.Ran.{allowed, leaves}
 use Rattle.demands.proofs.Taken.{weights-most}
@@ -114,12 +114,17 @@ module _ (request request′ : List ℕ) (lent′ : Lent) (like : Hundredfold re
     -- ---- rows
 
     module _ (long : length saved ≡ resultsOf h distances .count) (old : DistancesOf oldFar request saved) where
+      -- Row r, from its source.
+      at-row : (r : ℕ) → r < length (sourcesOf h)
+          → Distances (networkOf h ws) oldFar n (getD (sourcesOf h) r 0) (λ v. getD saved (r * n + v) (pos 0))
+      at-row r there = old _ r (record { there = there; source = refl })
+
       all-of-old : AllOfOld saved
       all-of-old i l =
           row-by-row (λ i. OfOld (getD saved i (pos 0))) (length (sourcesOf h)) n (accepted .vertices-some)
           (λ r v there.
           of-old (networkOf h ws) (networkOf h ws′) hundredfold n (accepted .vertices-few) below′ weights′ (getD (sourcesOf h) r 0)
-          (source-inside h accepted r there) _ (old r there) v)
+          (source-inside h accepted r there) _ (at-row r there) v)
           i (omega (arith, long, counted))
 
       least : (r : ℕ) → r < length (sourcesOf h)
@@ -127,12 +132,14 @@ module _ (request request′ : List ℕ) (lent′ : Lent) (like : Hundredfold re
       least r there =
           scaled-distances 100 (networkOf h ws) (networkOf h ws′) hundredfold oldFar far n (getD (sourcesOf h) r 0) _ _
           (becomes (networkOf h ws) (networkOf h ws′) hundredfold n (accepted .vertices-few) below′ weights′ (getD (sourcesOf h) r 0)
-          (source-inside h accepted r there) _ (old r there) saved all-of-old (λ v. r * n + v)
+          (source-inside h accepted r there) _ (at-row r there) saved all-of-old (λ v. r * n + v)
           (λ v l. omega (arith, long, counted, digits-lt {q = r} {m = length (sourcesOf h)} {r = v} {c = n} there l)) (λ v. refl))
-          (old r there)
+          (at-row r there)
 
       -- By the header of the request in hundredths.
-      least′ : DistancesOf far request′ (conversionOutcome saved .saved)
+      least′ : (r : ℕ) → r < length (sourcesOf (headerIn request′))
+          → Distances (networkIn request′) far (headerIn request′ .vertices) (getD (sourcesOf (headerIn request′)) r 0)
+          (λ v. getD (conversionOutcome saved .saved) (r * headerIn request′ .vertices + v) (pos 0))
       least′ =
           subst
           (λ (x : Header). (r : ℕ) → r < length (sourcesOf x)

@@ -1,7 +1,7 @@
 -- The table of specs/Facts, by computing the definitions. Rests on the definitions, and on the law that there is one least weight.
 use mathlib.Core.Path.{_≡_, refl, ap}
 use mathlib.Core.Logic.{_↔_, _≢_}
-use mathlib.Core.List.{[], _∷_}
+use mathlib.Core.List.{List, [], _∷_}
 use mathlib.Core.Option.{Option, none, some}
 use Prim.Native.Nat.{ℕ, zero, suc, _+_, _*_, _<_}
 use native.Mathlib.Omega.{arith}
@@ -11,15 +11,16 @@ use lib.ListN.{getD}
 use Rattle.fields.specs.Fields.{signedOf}
 use Rattle.limits.specs.Word.{weightOf}
 use Rattle.limits.specs.WithinLimits.{wordsIn}
-use Rattle.graph.specs.Walk.{Edge}
+use Rattle.graph.specs.Walk.{Edge, Network}
+use Rattle.graph.specs.BellmanFord.{network}
 use Rattle.graph.specs.Reweighed.{Weighed, scaled, moved}
-use Rattle.graph.specs.LeastWeight.{between}
+use Rattle.graph.specs.LeastBetween.{between, LeastBetween, SameLeast}
 use Rattle.graph.proofs.Int.{arithℤ}
-use Rattle.graph.proofs.LeastWeight.{same-least}
-use Rattle.demands.specs.Network.{edgeOf, networkOf}
+use Rattle.graph.proofs.LeastBetween.{same-least}
+use Rattle.demands.specs.Network.{edgeOf, networkOf, networkIn}
 use Rattle.comparisons.specs.Repriced.{EntryRepriced}
 use Rattle.comparisons.specs.Totals.{LeastPrice, SamePrices}
-use Rattle.comparisons.specs.Facts.{lanes, table, ofYards, Facts}
+use Rattle.comparisons.specs.Facts.{lanes, table, fee, Facts}
 use Rattle.comparisons.proofs.Repriced.{entry-hundredfold}
 
 -- ---- what holds of each number below 1, 2 and 3
@@ -61,13 +62,25 @@ no-entry : (f : Edge → ℤ) (u v : ℕ) → EntryRepriced f u v 0x00000000FFFF
 unfolding weightOf signedOf
 no-entry f u v = record { no-edge = (λ e. refl, λ e. refl); weight = λ ne. absurd (ne refl) }
 
-moved-entry : EntryRepriced (moved (ofYards (pos 10) (pos 3))) 0 1 7 14
+moved-entry : EntryRepriced (moved fee) 0 1 7 14
 unfolding weightOf signedOf
 moved-entry = record { no-edge = (λ e. absurd (omega (arith, ap natAbs e)), λ e. absurd (omega (arith, ap natAbs e))); weight = λ ne. refl }
 
+-- The first word is the lane, whatever comes after it.
+moved-lane : (rest rest′ : List ℕ) (i : ℕ) → i < 1
+    → Weighed (moved fee) (edgeOf (0x0001000000000007 ∷ rest) i) (edgeOf (0x000100000000000E ∷ rest′) i)
+unfolding weightOf signedOf
+moved-lane rest rest′ =
+    of-one (λ i. Weighed (moved fee) (edgeOf (0x0001000000000007 ∷ rest) i) (edgeOf (0x000100000000000E ∷ rest′) i))
+    (record { begins = refl; ends = refl; weighs = refl })
+
 -- ---- least prices
 
-least : LeastPrice lanes 0 1 (some (pos 7)) × LeastPrice lanes 1 0 none
+-- The least price from 0 to 1 is 7, and from 1 to 0 there is none.
+abbrev Sevens : Network → Type 0
+Sevens net = LeastBetween net 0 1 (some (pos 7)) × LeastBetween net 1 0 none
+
+least : Sevens (networkIn lanes)
 unfolding networkOf weightOf signedOf
 least = (
   (
@@ -87,7 +100,7 @@ least = (
       (real .0) (real .1) (real .2),
 )
 
-entry : LeastPrice (table 7) 0 1 (some (pos 7)) × LeastPrice (table 7) 1 0 none
+entry : Sevens (networkIn (table 7))
 unfolding networkOf weightOf signedOf
 entry = (
   (
@@ -97,9 +110,31 @@ entry = (
   λ w real. real .entered refl,
 )
 
--- What the least price from 0 to 1 would have to be.
-apart : (price : ℕ) → SamePrices lanes (table price) → LeastPrice (table price) 0 1 (some (pos 7))
-apart price p = p .least 0 1 (omega arith) (omega arith) (λ e. omega arith) (some (pos 7)) .0 (least .0)
+one-lane : (rest : List ℕ) → Sevens (network (edgeOf (0x0001000000000007 ∷ rest)) 1)
+unfolding weightOf signedOf
+one-lane rest = (
+  (
+    (0, omega arith, refl),
+    λ x real.
+        of-one (λ i. between 0 1 x ≡ edgeOf (0x0001000000000007 ∷ rest) i → pos 7 ≤ℤ x) (λ q. omega (arithℤ, ap (λ (e : Edge). e .weight) q))
+        (real .0) (real .1) (real .2),
+  ),
+  λ w real.
+      of-one (λ i. between 1 0 w ≢ edgeOf (0x0001000000000007 ∷ rest) i) (λ q. omega (arith, ap (λ (e : Edge). e .from) q))
+      (real .0) (real .1) (real .2),
+)
+
+agreed : (net net′ : Network) → Sevens net → Sevens net′ → SameLeast 2 net net′
+agreed net net′ p q =
+    pairs (λ u v. u ≢ v → (w : Option ℤ) → LeastBetween net u v w ↔ LeastBetween net′ u v w)
+    (λ ne. absurd (ne refl))
+    (λ ne. same-least _ _ 0 1 (some (pos 7)) (p .0) (q .0))
+    (λ ne. same-least _ _ 1 0 none (p .1) (q .1))
+    (λ ne. absurd (ne refl))
+
+-- What the least price of a table would have to be.
+would-be : (price : ℕ) → SamePrices lanes (table price) → LeastPrice (table price) 0 1 (some (pos 7))
+would-be price p = p .least 0 1 (omega arith) (omega arith) (λ e. omega arith) (some (pos 7)) .0 (least .0)
 
 pub facts : Facts
 unfolding networkOf weightOf signedOf
@@ -115,34 +150,38 @@ facts =
       ends = λ p. omega (arith, p .words 0 (omega arith) .begins);
       least = least;
       entry = entry;
-      agree = record {
-        vertices = refl;
-        least =
-            pairs (λ u v. u ≢ v → (w : Option ℤ) → LeastPrice lanes u v w ↔ LeastPrice (table 7) u v w)
-            (λ ne. absurd (ne refl))
-            (λ ne. same-least _ _ 0 1 (some (pos 7)) (least .0) (entry .0))
-            (λ ne. same-least _ _ 1 0 none (least .1) (entry .1))
-            (λ ne. absurd (ne refl));
-      };
-      greater = λ p. omega (arith, ap natAbs (apart 9 p .0 .weighs));
-      missing = λ p. apart 0x00000000FFFFFFFF p .0 .entered refl;
-      fees = record {
+      agree-2 = record { vertices = refl; least = agreed _ _ least entry };
+      agree-3 = record { vertices = refl; least = agreed _ _ least (one-lane []) };
+      agree-4 = record { vertices = refl; least = agreed _ _ (one-lane []) (one-lane []) };
+      agree-5 = record { vertices = refl; least = agreed _ _ (one-lane []) (one-lane (0 ∷ [])) };
+      greater = λ p. omega (arith, ap natAbs (would-be 9 p .0 .weighs));
+      missing = λ p. would-be 0x00000000FFFFFFFF p .0 .entered refl;
+      fees-1 = record {
         header = refl;
         words =
             of-two
-            (λ i. Weighed (moved (ofYards (pos 10) (pos 3))) (edgeOf (0x0001000000000007 ∷ 0x0100000000000005 ∷ []) i)
+            (λ i. Weighed (moved fee) (edgeOf (0x0001000000000007 ∷ 0x0100000000000005 ∷ []) i)
             (edgeOf (0x000100000000000E ∷ 0x01000000FFFFFFFE ∷ []) i))
             (record { begins = refl; ends = refl; weighs = refl })
             (record { begins = refl; ends = refl; weighs = refl });
       };
       turned = λ p. omega (arith, ap natAbs (p .words 0 (omega arith) .weighs));
-      fees-of-table = record {
+      fees-2 = record {
         header = refl;
         words =
             pairs
-            (λ u v. EntryRepriced (moved (ofYards (pos 10) (pos 3))) u v (getD (wordsIn (table 7)) (u * 2 + v) 0)
-            (getD (wordsIn (table 14)) (u * 2 + v) 0))
+            (λ u v. EntryRepriced (moved fee) u v (getD (wordsIn (table 7)) (u * 2 + v) 0) (getD (wordsIn (table 14)) (u * 2 + v) 0))
             (no-entry _ 0 0) moved-entry (no-entry _ 1 0) (no-entry _ 1 1);
       };
+      fees-3 = record { header = refl; words = moved-lane [] [] };
+      fees-4 = record { header = refl; words = moved-lane [] [] };
+      fees-5 = record { header = refl; words = moved-lane (1 ∷ []) (0 ∷ []) };
       lost = λ p. omega (arith, ap natAbs (p .words 0 1 (omega arith) (omega arith) .no-edge .1 refl));
+      rises = (
+        record { unreached = (λ e. absurd (omega (arith, ap natAbs e)), λ e. absurd (omega (arith, ap natAbs e))); rises = λ ne. refl },
+        record { unreached = (λ e. e, λ e. e); rises = λ ne. absurd (ne refl) },
+      );
+      stays = λ p. omega (arith, ap natAbs (p .rises (λ e. omega (arith, ap natAbs e))));
+      appears = λ p. omega (arith, ap natAbs (p .unreached .0 refl));
+      vanishes = λ p. omega (arith, ap natAbs (p .unreached .1 refl));
     }

@@ -6,7 +6,7 @@ use mathlib.Core.List.{List}
 use Prim.Native.Nat.{ℕ, _+_, _*_, _<_}
 use native.Mathlib.Omega.{arith}
 use lib.IntN.{ℤ, _+ℤ_, _-ℤ_}
-use lib.ListN.{length, getD}
+use lib.ListN.{length, getD, take}
 use Rattle.answers.specs.Told.{Told}
 use Rattle.plans.specs.declared.Header.{Header}
 use Rattle.plans.specs.Limits.{far}
@@ -20,13 +20,12 @@ use Rattle.graph.proofs.Distances.{both-unreached}
 use Rattle.graph.proofs.Reweighed.{moved-cycles, moved-distances}
 use Rattle.demands.specs.Run.{Lent, cellsLeft, outcome}
 use Rattle.demands.specs.Network.{networkOf, sourcesOf, CycleFrom}
-use Rattle.demands.specs.Demands.{RanOn, roundsTold, lengthTold, verdictTold, resultOf}
+use Rattle.demands.specs.Demands.{RanOn, roundsTold, lengthTold, verdictTold, resultOf, SamePublic}
 use Rattle.demands.proofs.Ran.{allowed, verdict-of, verdict-is}
-use Rattle.demands.proofs.Sources.{row-by-row}
 use Rattle.demands.proofs.Theorems.{demand1, demand2, demand3a, demand3}
 use Rattle.comparisons.specs.Repriced.{FeesMoved}
 use Rattle.comparisons.specs.Rows.{RowFrom, distanceIn}
-use Rattle.comparisons.specs.Fees.{MovedTotals, Fees}
+use Rattle.comparisons.specs.Fees.{Rises, MovedFees, MovedFeesByMethod}
 use Rattle.comparisons.proofs.Repriced.{networks}
 use Rattle.comparisons.proofs.Rows.{own-row, vertex-row, first}
 
@@ -75,26 +74,27 @@ module _ (fee : ℕ → ℤ) (request request′ : List ℕ) (lent lent′ : Len
       moved-distances fee net net′ reweighed far far (h .vertices) s _ _
       (rw (from .source) at (demand2 request lent .least-totals ran t r (from .there))) (rw (from .source) at (least′ r (from .there)))
 
-pub moved-totals : MovedTotals
-moved-totals fee request request′ lent lent′ ran ran′ like =
+pub moved-fees : MovedFees
+moved-fees fee request request′ lent lent′ ran ran′ like =
     let same = verdict fee request request′ lent lent′ ran ran′ like in
     let each = becomes fee request request′ lent lent′ ran ran′ like in
+    let public : SamePublic request′ lent′ request lent =
+    record {
+      method = ap (λ (x : Header). x .method) (like .header);
+      vertices = ap (λ (x : Header). x .vertices) (like .header);
+      edges = ap (λ (x : Header). x .edges) (like .header);
+      source = ap (λ (x : Header). x .source) (like .header);
+      verdict = λ there. same;
+    } in
     record {
       verdict = same;
-      log =
-          demand3a request′ request lent′ lent ran′ ran .1
-          (record {
-            method = ap (λ (x : Header). x .method) (like .header);
-            vertices = ap (λ (x : Header). x .vertices) (like .header);
-            edges = ap (λ (x : Header). x .edges) (like .header);
-            source = ap (λ (x : Header). x .source) (like .header);
-            verdict = λ there. same;
-          });
-      unreached = λ t s r from. both-unreached _ _ _ _ _ _ (each t s r from);
-      rises = λ t s r from. each t s r from .each;
+      log = demand3a request′ request lent′ lent ran′ ran .1 public;
+      totals = λ t s r from v l.
+          let to = each t s r from in
+          record { unreached = both-unreached _ _ _ _ _ _ to v l; rises = to .each v l };
     }
 
--- ---- in fewer words
+-- ---- without rows
 
 -- Runs of the same header with the same verdict have the same answer.
 same-answer : (request request′ : List ℕ) (lent lent′ : Lent) → RanOn request lent → RanOn request′ lent′
@@ -121,26 +121,21 @@ same-answer request request′ lent lent′ ran ran′ header verdict =
     second : Told → ℕ
     second told = getD (told .values) 2 0
 
-alike : {a b c d : ℤ} → a ≡ c → b ≡ d → (a ≡ far) ↔ (b ≡ far) → (c ≡ far) ↔ (d ≡ far)
-alike p q h = rw (p, q) at h
+alike : (fee : ℕ → ℤ) (s v : ℕ) {a b c d : ℤ} → a ≡ c → b ≡ d → Rises fee s v a b → Rises fee s v c d
+alike fee s v p q h = rw (p, q) at h
 
-pub fees : (fee : ℕ → ℤ) (request request′ : List ℕ) (lent lent′ : Lent) → RanOn request lent → RanOn request′ lent′
-    → FeesMoved fee request request′ → Fees fee request lent request′ lent′
-fees fee request request′ lent lent′ ran ran′ like =
+pub moved-by-method : MovedFeesByMethod
+moved-by-method fee request request′ lent lent′ ran ran′ like =
     let h = headerIn request in
-    let n = h .vertices in
-    let moves = moved-totals fee request request′ lent lent′ ran ran′ like in
-    let placed : (r v : ℕ) → distanceIn request′ lent′ r v ≡ resultOf request′ lent′ distances (r * n + v) =
-    λ r v. ap (λ (x : Header). resultOf request′ lent′ distances (r * x .vertices + v)) (like .header) in
+    let moves = moved-fees fee request request′ lent lent′ ran ran′ like in
+    let answer = same-answer request request′ lent lent′ ran ran′ (like .header) (moves .verdict) in
     record {
-      answer = same-answer request request′ lent lent′ ran ran′ (like .header) (moves .verdict);
+      answer = answer;
+      log = ap (λ (told : Told). take (getD (told .values) 1 0) (outcome request′ lent′ .log)) (sym answer) ∙ moves .log;
       one-source = λ t given v l.
-          rw (first request lent v, first request′ lent′ v) at (moves .rises t (h .source) 0 (own-row request lent ran given) v l);
-      one-unreached = λ t given v l.
-          alike (first request lent v) (first request′ lent′ v) (moves .unreached t (h .source) 0 (own-row request lent ran given) v l);
-      table = λ t four i j k l. rw (placed i j) at (moves .rises t i i (vertex-row request lent ran four i k) j l);
-      table-unreached = λ t four.
-          row-by-row (λ i. (resultOf request lent distances i ≡ far) ↔ (resultOf request′ lent′ distances i ≡ far)) n n
-          (allowed request lent ran .vertices-some)
-          (λ i j k l. alike refl (placed i j) (moves .unreached t i i (vertex-row request lent ran four i k) j l));
+          alike fee (h .source) v (first request lent v) (first request′ lent′ v)
+          (moves .totals t (h .source) 0 (own-row request lent ran given) v l);
+      table = λ t four i j k l.
+          alike fee i j refl (ap (λ (x : Header). resultOf request′ lent′ distances (i * x .vertices + j)) (like .header))
+          (moves .totals t i i (vertex-row request lent ran four i k) j l);
     }

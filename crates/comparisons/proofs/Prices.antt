@@ -1,4 +1,4 @@
--- Between each two vertices of a request there is one least price, or none. Rests on graph's LeastWeight.
+-- Between each two vertices of a request there is one least price, or none. Rests on graph's LeastBetween.
 use mathlib.Core.Path.{refl}
 use mathlib.Core.List.{List}
 use mathlib.Core.Option.{none, some}
@@ -10,9 +10,9 @@ use Rattle.plans.specs.Plan.{Accepted}
 use Rattle.plans.proofs.Headers.{by-method}
 use Rattle.limits.specs.Word.{weightOf}
 use Rattle.limits.specs.WithinLimits.{headerIn, wordsIn}
-use Rattle.graph.specs.LeastWeight.{HasLeast}
+use Rattle.graph.specs.LeastBetween.{HasLeast}
 use Rattle.graph.proofs.Int.{arithℤ}
-use Rattle.graph.proofs.LeastWeight.{one-least, row-least}
+use Rattle.graph.proofs.LeastBetween.{one-least, row-least}
 use Rattle.demands.specs.Network.{edgeOf, Entered, networkOf}
 use Rattle.demands.proofs.Ran.{allowed}
 use Rattle.comparisons.specs.Totals.{OnePrice}

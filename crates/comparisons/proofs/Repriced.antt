@@ -14,7 +14,7 @@ use Rattle.limits.specs.Word.{weightOf}
 use Rattle.graph.specs.Walk.{Edge}
 use Rattle.graph.specs.Dijkstra.{fromVertex}
 use Rattle.graph.specs.Reweighed.{Reweighed, Renamed, scaled}
-use Rattle.graph.specs.LeastWeight.{between}
+use Rattle.graph.specs.LeastBetween.{between}
 use Rattle.graph.proofs.Product.{times-abs}
 use Rattle.graph.proofs.Reweighed.{row-reweighed, row-renamed}
 use Rattle.demands.specs.Network.{edgeOf, Entered, networkOf, namingOf}

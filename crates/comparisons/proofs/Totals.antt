@@ -1,7 +1,6 @@
 -- Totals across methods: rows from the same source are the same where least prices agree.
--- Rests on graph's LeastWeight and on the demands.
+-- Rests on graph's LeastBetween and on the demands.
 use mathlib.Core.Path.{_≡_, sym, ap, _∙_, subst}
-use mathlib.Core.List.{List}
 use Prim.Native.Nat.{ℕ, _+_, _*_, _<_}
 use Rattle.plans.specs.Limits.{far}
 use Rattle.plans.specs.Plan.{distances}
@@ -9,16 +8,15 @@ use Rattle.plans.proofs.Headers.{source-below}
 use Rattle.limits.specs.WithinLimits.{headerIn, wordsIn}
 use Rattle.graph.specs.Walk.{Below}
 use Rattle.graph.specs.Shortest.{Distances}
-use Rattle.graph.specs.LeastWeight.{HasLeast}
-use Rattle.graph.proofs.LeastWeight.{same-distances}
-use Rattle.demands.specs.Run.{Lent}
+use Rattle.graph.specs.LeastBetween.{HasLeast}
+use Rattle.graph.proofs.LeastBetween.{same-distances}
 use Rattle.demands.specs.Network.{networkOf}
-use Rattle.demands.specs.Demands.{RanOn, verdictTold, resultOf}
+use Rattle.demands.specs.Demands.{resultOf}
 use Rattle.demands.proofs.Ran.{allowed, leaves}
 use Rattle.demands.proofs.Sources.{row-by-row, source-inside}
 use Rattle.demands.proofs.Theorems.{demand2}
 use Rattle.comparisons.specs.Rows.{RowFrom, distanceIn}
-use Rattle.comparisons.specs.Totals.{SamePrices, SameTotals, Across}
+use Rattle.comparisons.specs.Totals.{SameTotals, SameTotalsByMethod}
 use Rattle.comparisons.proofs.Rows.{own-row, vertex-row, first}
 use Rattle.comparisons.proofs.Prices.{least-there}
 
@@ -38,10 +36,8 @@ same-totals request request′ lent lent′ ran ran′ t t′ same s r r′ from
     (rw (from .source) at (source-inside h a r (from .there))) (least-there h a (wordsIn request)) least′ (same .least)
     (rw (from .source) at (demand2 request lent .least-totals ran t r (from .there))) row′ v l
 
--- In fewer words.
-pub across : (request request′ : List ℕ) (lent lent′ : Lent) → RanOn request lent → RanOn request′ lent′
-    → verdictTold request lent ≡ 0 → verdictTold request′ lent′ ≡ 0 → SamePrices request request′ → Across request lent request′ lent′
-across request request′ lent lent′ ran ran′ t t′ same =
+pub same-by-method : SameTotalsByMethod
+same-by-method request request′ lent lent′ ran ran′ t t′ same =
     let h = headerIn request in
     let n = h .vertices in
     let a = allowed request lent ran in

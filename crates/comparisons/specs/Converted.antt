@@ -8,26 +8,26 @@ use lib.IntN.{ℤ, pos}
 use lib.ListN.{length, getD}
 use Rattle.plans.specs.Limits.{far}
 use Rattle.plans.specs.Plan.{distances, resultsOf}
-use Rattle.limits.specs.WithinLimits.{headerIn, wordsIn}
+use Rattle.limits.specs.WithinLimits.{headerIn}
 use Rattle.graph.specs.Shortest.{Distances, Shortest}
 use Rattle.saved.specs.Saved.{oldFar, conversionOutcome}
 use Rattle.demands.specs.Run.{Lent}
-use Rattle.demands.specs.Network.{networkOf, namingOf, sourcesOf}
+use Rattle.demands.specs.Network.{networkIn, namingIn}
 use Rattle.demands.specs.Demands.{RanOn, verdictTold, resultOf}
 use Rattle.comparisons.specs.Repriced.{Hundredfold}
+use Rattle.comparisons.specs.Rows.{RowFrom}
 
 -- The words are a request's distances, a row for each source, with this mark for an unreached vertex; and those of its one row, with parents.
 module _ (mark : ℤ) (request : List ℕ) (words : List ℤ) where
   abbrev pub DistancesOf : Type 0
   DistancesOf =
-      (r : ℕ) → r < length (sourcesOf (headerIn request))
-      → Distances (networkOf (headerIn request) (wordsIn request)) mark (headerIn request .vertices) (getD (sourcesOf (headerIn request)) r 0)
-      (λ v. getD words (r * headerIn request .vertices + v) (pos 0))
+      (s r : ℕ) → RowFrom request s r
+      → Distances (networkIn request) mark (headerIn request .vertices) s (λ v. getD words (r * headerIn request .vertices + v) (pos 0))
 
   abbrev pub ShortestOf : (parent : ℕ → ℤ) → Type 0
   ShortestOf parent =
-      Shortest (networkOf (headerIn request) (wordsIn request)) (namingOf (headerIn request) (wordsIn request)) mark
-      (headerIn request .vertices) (headerIn request .source) (λ v. getD words v (pos 0)) parent
+      Shortest (networkIn request) (namingIn request) mark (headerIn request .vertices) (headerIn request .source)
+      (λ v. getD words v (pos 0)) parent
 
 -- Words are converted; a run with verdict 0 gives the same.
 pub record Agrees (saved : List ℤ) (request : List ℕ) (lent : Lent) : Type 0 where

@@ -1,6 +1,6 @@
 pub mod Repriced
-pub mod Converted
 pub mod Rows
+pub mod Converted
 pub mod Totals
 pub mod Fees
 pub mod Facts

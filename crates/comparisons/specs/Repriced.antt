@@ -12,7 +12,7 @@ use Rattle.limits.specs.Word.{weightOf}
 use Rattle.limits.specs.WithinLimits.{headerIn, wordsIn}
 use Rattle.graph.specs.Walk.{Edge}
 use Rattle.graph.specs.Reweighed.{Weighed, scaled, moved}
-use Rattle.graph.specs.LeastWeight.{between}
+use Rattle.graph.specs.LeastBetween.{between}
 use Rattle.demands.specs.Network.{edgeOf}
 
 -- An entry's word, in method 2, from u to v: -1, no edge, stands in both or in neither.
@@ -20,7 +20,7 @@ pub record EntryRepriced (f : Edge → ℤ) (u v word word′ : ℕ) : Type 0 wh
   pub no-edge : (weightOf word ≡ negsuc 0) ↔ (weightOf word′ ≡ negsuc 0)
   pub weight : weightOf word ≢ negsuc 0 → weightOf word′ ≡ f (between u v (weightOf word))
 
--- The words at each place: edges with the same ends, and entries.
+-- By method: each edge has the same ends and weighs f of what it was, or each entry does.
 abbrev pub WordsRepriced : (f : Edge → ℤ) → Header → (words words′ : List ℕ) → Type 0
 WordsRepriced f h ws ws′ =
     let edges = (i : ℕ) → i < h .edges → Weighed f (edgeOf ws i) (edgeOf ws′ i) in

@@ -26,7 +26,7 @@ use Rattle.graph.specs.Shortest.{Distances, Parents, Shortest}
 use Rattle.graph.specs.Floyd.{Anywhere}
 use Rattle.methods.specs.Bank.{Summed, Exact}
 use Rattle.demands.specs.Run.{Lent, lengthsOf, refusalOf, startOf, refusedBy, outcome}
-use Rattle.demands.specs.Network.{networkOf, namingOf, sourcesOf, CycleFrom}
+use Rattle.demands.specs.Network.{networkIn, namingIn, sourcesOf, CycleFrom}
 use Rattle.demands.specs.Besides.{besidesOf}
 use Rattle.demands.specs.Sums.{sumBound}
 
@@ -99,22 +99,18 @@ resultOf request lent k i = getD (outcome request lent .results k) i (pos 0)
 
 -- Method 4 has every vertex as a source, with a row of distances for each, and gives no parents; the others have one source, the header's.
 pub record Demand2 (request : List ℕ) (lent : Lent) : Type 0 where
-  pub cycle : RanOn request lent
-      → (verdictTold request lent ≡ 1)
-      ↔ CycleFrom (networkOf (headerIn request) (wordsIn request)) (sourcesOf (headerIn request))
-  pub no-cycle : RanOn request lent
-      → (verdictTold request lent ≡ 0)
-      ↔ ¬ CycleFrom (networkOf (headerIn request) (wordsIn request)) (sourcesOf (headerIn request))
+  pub cycle : RanOn request lent → (verdictTold request lent ≡ 1) ↔ CycleFrom (networkIn request) (sourcesOf (headerIn request))
+  pub no-cycle : RanOn request lent → (verdictTold request lent ≡ 0) ↔ ¬ CycleFrom (networkIn request) (sourcesOf (headerIn request))
   -- The distances given are a row for each source: least totals over all walks from it, FAR exactly where none leads.
   pub rows : RanOn request lent
       → resultsOf (headerIn request) distances .count ≡ length (sourcesOf (headerIn request)) * headerIn request .vertices
   pub least-totals : RanOn request lent → verdictTold request lent ≡ 0 → (r : ℕ) → r < length (sourcesOf (headerIn request))
-      → Distances (networkOf (headerIn request) (wordsIn request)) far (headerIn request .vertices) (getD (sourcesOf (headerIn request)) r 0)
+      → Distances (networkIn request) far (headerIn request .vertices) (getD (sourcesOf (headerIn request)) r 0)
       (λ v. resultOf request lent distances (r * headerIn request .vertices + v))
   -- The parents, where a method gives them: last steps of least walks from the header's source, that lead back to it.
   pub parent-marks : RanOn request lent → verdictTold request lent ≡ 0 → resultsOf (headerIn request) parents .count ≢ 0
-      → Parents (networkOf (headerIn request) (wordsIn request)) (namingOf (headerIn request) (wordsIn request)) far
-      (headerIn request .vertices) (headerIn request .source) (resultOf request lent distances) (resultOf request lent parents)
+      → Parents (networkIn request) (namingIn request) far (headerIn request .vertices) (headerIn request .source)
+      (resultOf request lent distances) (resultOf request lent parents)
   -- What the method fixes of them besides: in method 3 they are those of synchronous passes, each reading the distances of the pass before, the
   -- least offer to each vertex, by the lowest edge among equal ones, taken on a strict gain only. In method 5 the route is the parents followed back
   -- from the destination: for a reached one edges that, the last first, lead to it from the source with its distance as total, and then -1; for the
@@ -124,20 +120,18 @@ pub record Demand2 (request : List ℕ) (lent : Lent) : Type 0 where
 
 -- Of a method that gives parents, which has one source, in fewer words: all but method 4.
 pub record OneSource (request : List ℕ) (lent : Lent) : Type 0 where
-  pub cycle : (verdictTold request lent ≡ 1) ↔ NegativeCycle (networkOf (headerIn request) (wordsIn request)) (headerIn request .source)
-  pub no-cycle : (verdictTold request lent ≡ 0)
-      ↔ ¬ NegativeCycle (networkOf (headerIn request) (wordsIn request)) (headerIn request .source)
+  pub cycle : (verdictTold request lent ≡ 1) ↔ NegativeCycle (networkIn request) (headerIn request .source)
+  pub no-cycle : (verdictTold request lent ≡ 0) ↔ ¬ NegativeCycle (networkIn request) (headerIn request .source)
   pub shortest : verdictTold request lent ≡ 0
-      → Shortest (networkOf (headerIn request) (wordsIn request)) (namingOf (headerIn request) (wordsIn request)) far
-      (headerIn request .vertices) (headerIn request .source) (resultOf request lent distances) (resultOf request lent parents)
+      → Shortest (networkIn request) (namingIn request) far (headerIn request .vertices) (headerIn request .source)
+      (resultOf request lent distances) (resultOf request lent parents)
 
 -- Of method 4, in fewer words: one verdict for the whole table, and each of its rows with that row's vertex as source.
 pub record EverySource (request : List ℕ) (lent : Lent) : Type 0 where
-  pub cycle : (verdictTold request lent ≡ 1) ↔ Anywhere (networkOf (headerIn request) (wordsIn request)) (headerIn request .vertices)
-  pub no-cycle : (verdictTold request lent ≡ 0)
-      ↔ ¬ Anywhere (networkOf (headerIn request) (wordsIn request)) (headerIn request .vertices)
+  pub cycle : (verdictTold request lent ≡ 1) ↔ Anywhere (networkIn request) (headerIn request .vertices)
+  pub no-cycle : (verdictTold request lent ≡ 0) ↔ ¬ Anywhere (networkIn request) (headerIn request .vertices)
   pub distances : verdictTold request lent ≡ 0 → (i : ℕ) → i < headerIn request .vertices
-      → Distances (networkOf (headerIn request) (wordsIn request)) far (headerIn request .vertices) i
+      → Distances (networkIn request) far (headerIn request .vertices) i
       (λ j. resultOf request lent distances (i * headerIn request .vertices + j))
 
 -- ---- demand 3: what the log tells

@@ -10,6 +10,7 @@ use Rattle.plans.specs.declared.Header.{Header}
 use Rattle.plans.specs.Limits.{byMethod}
 use Rattle.plans.specs.Blocks.{flat}
 use Rattle.limits.specs.Word.{fromField, toField, weightOf}
+use Rattle.limits.specs.WithinLimits.{headerIn, wordsIn}
 use Rattle.graph.specs.Walk.{Edge, Network, NegativeCycle}
 use Rattle.graph.specs.Shortest.{Naming}
 use Rattle.graph.specs.BellmanFord.{network, numbered}
@@ -36,6 +37,13 @@ unfoldable pub namingOf : Header → (words : List ℕ) → Naming
 namingOf h ws =
     let by-number = numbered (edgeOf ws) (h .edges) in
     byMethod (h .method) (λ k e. ⊥) (by-number ∷ fromVertex ∷ by-number ∷ (λ k e. ⊥) ∷ by-number ∷ [])
+
+-- Both, of a request.
+abbrev pub networkIn : (request : List ℕ) → Network
+networkIn request = networkOf (headerIn request) (wordsIn request)
+
+abbrev pub namingIn : (request : List ℕ) → Naming
+namingIn request = namingOf (headerIn request) (wordsIn request)
 
 -- All n vertices, upward.
 abbrev pub everyVertex : (n : ℕ) → List ℕ

@@ -80,7 +80,9 @@ runs = (
     method-5 = refl;
     moved-1 = refl;
     moved-2 = refl;
+    moved-3 = refl;
     moved-4 = refl;
+    moved-5 = refl;
   },
 )
 

@@ -55,8 +55,9 @@ pub record Rules : Type 0 where
   pub intake : Intake.Facts
   -- "Who caused it": foreign plans
   pub runner : Runner.Facts
-  -- "A lent buffer of saved distances is converted" (document 02, ask 7), and requests in hundredths
+  -- "A lent buffer of saved distances is converted" (document 02, ask 7)
   pub saved : Saved.Facts
+  -- Requests compared: in hundredths (ask 7), with fees moved, and by their least prices (ask 9)
   pub comparisons : Comparisons.Facts
   -- The printed request's distances, 0 and -5, converted are those of its run with the lane at -500.
   pub finer : conversionOutcome (pos 0 ∷ negsuc 4 ∷ []) .saved

@@ -20,4 +20,4 @@ pub mod Marks
 pub mod Route
 pub mod Product
 pub mod Reweighed
-pub mod LeastWeight
+pub mod LeastBetween

@@ -9,4 +9,4 @@ pub mod Dijkstra
 pub mod Floyd
 pub mod Route
 pub mod Reweighed
-pub mod LeastWeight
+pub mod LeastBetween

@@ -6,10 +6,10 @@ use Prim.Native.Nat.{ℕ, _+_, _*_, _<_}
 use lib.ListN.{length, getD}
 use Rattle.plans.specs.Blocks.{flat}
 use Rattle.plans.specs.Plan.{distances, parents}
-use Rattle.limits.specs.WithinLimits.{headerIn, wordsIn}
+use Rattle.limits.specs.WithinLimits.{headerIn}
 use Rattle.graph.specs.Walk.{Walk}
 use Rattle.demands.specs.Run.{Lent}
-use Rattle.demands.specs.Network.{networkOf, sourcesOf}
+use Rattle.demands.specs.Network.{networkIn, sourcesOf}
 use Rattle.demands.specs.Demands.{resultOf}
 use Rattle.printing.specs.Texts.{lineText}
 
@@ -23,7 +23,7 @@ module _ (request : List ℕ) where
 
   -- A walk leads from a row's source to the vertex.
   abbrev pub Reached : (row v : ℕ) → Type 0
-  Reached r v = Walk (networkOf (headerIn request) (wordsIn request)) (sourceAt r) v
+  Reached r v = Walk (networkIn request) (sourceAt r) v
 
   -- The line of a vertex with its results.
   abbrev pub lineAt : Lent → (row v : ℕ) → List ℕ

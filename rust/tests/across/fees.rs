@@ -19,16 +19,20 @@ fn weights(method: u64) -> RangeInclusive<i64> {
 }
 
 /// The request with every weight higher by the fee of the vertex that the edge
-/// leaves, and lower by that of the one where it arrives.
-fn moved(request: &[u64], fees: &[i64]) -> Vec<u64> {
+/// leaves, and lower by that of the one where it arrives. In method 5 the
+/// destination may be another.
+fn moved(random: &mut Random, request: &[u64], fees: &[i64]) -> Vec<u64> {
     let mut moved = request.to_vec();
-    // A destination comes after all edges, and stays.
     for (word, edge) in moved[1..].iter_mut().zip(Graph::read(request).edges) {
         if let Some(Edge { tail, head, weight }) = edge {
             let weight = weight + fees[tail] - fees[head];
             assert!(weights(request[0] >> 60).contains(&weight));
             *word = *word >> 32 << 32 | u64::from(weight as u32);
         }
+    }
+    if request[0] >> 60 == 5 {
+        let last = moved.len() - 1;
+        moved[last] = random.below(fees.len() as u64);
     }
     moved
 }
@@ -66,12 +70,22 @@ fn room(request: &[u64], fees: &[i64], vertex: usize, reach: i64) -> [i64; 2] {
     room
 }
 
-/// A request as other tests draw it, or one of a network by its least weights.
+/// A request that has an edge between different vertices.
 fn drawn(random: &mut Random, method: u64) -> Vec<u64> {
+    loop {
+        let request = any_request(random, method);
+        if edges(&request).iter().any(|edge| edge.tail != edge.head) {
+            return request;
+        }
+    }
+}
+
+/// A request as other tests draw it, or one of a network by its least weights.
+fn any_request(random: &mut Random, method: u64) -> Vec<u64> {
     let chances = if method == 2 { 20 } else { 150 };
     let (n, m) = match random.one_in(chances) {
         true => (32, 128),
-        false => (1 + random.below(8), random.below(16)),
+        false => (2 + random.below(7), random.below(16)),
     };
     if !random.one_in(3) {
         let network = Network::draw(random, n as usize);
@@ -93,7 +107,7 @@ fn moved_fees() {
         let method = METHODS[turn % METHODS.len()];
         let request = drawn(&mut random, method);
         let fees = fees(&mut random, &request);
-        let other = moved(&request, &fees);
+        let other = moved(&mut random, &request, &fees);
         let [before, after] = [&request, &other].map(|request| told(&mut random, request));
         assert_eq!(before.outcome, after.outcome, "{fees:?} {request:x?}");
         assert!(before.log == after.log, "{fees:?} {request:x?}");
@@ -145,7 +159,7 @@ fn count_kinds(requests: [&[u64]; 2], fees: &[i64], told: [&Told; 2], seen: &mut
         (furthest > 1_000_000, "distance moved by over 1000000"),
     ];
     // Equal fees change nothing.
-    let changes = request != other;
+    let changes = edges(request) != edges(other);
     count(seen, method, &kinds.map(|(is, kind)| (is && changes, kind)));
 }
 

@@ -3,7 +3,7 @@
 use super::plan::{head, Public};
 
 /// An edge: its tail, its head and its weight.
-#[derive(Clone, Copy)]
+#[derive(Clone, Copy, PartialEq)]
 pub struct Edge {
     pub tail: usize,
     pub head: usize,

@@ -12,25 +12,25 @@ use lib.Signed.{_≤ℤ_}
 use Rattle.graph.specs.Walk.{Edge, Network, Chain, total, NegativeCycle, Below}
 use Rattle.graph.specs.Shortest.{Distances}
 use Rattle.graph.specs.BellmanFord.{network}
-use Rattle.graph.specs.LeastWeight.{between, LeastWeight, HasLeast, SameLeast}
+use Rattle.graph.specs.LeastBetween.{between, LeastBetween, HasLeast, SameLeast}
 use Rattle.graph.proofs.Int.{arithℤ, sum, le-or-lt}
 use Rattle.graph.proofs.Walk.{chain-append}
 use Rattle.graph.proofs.Distances.{no-cycle, carried, unturned}
 
 -- ---- there is one
 
-pub one-least : (net : Network) (u v : ℕ) (w w′ : Option ℤ) → LeastWeight net u v w → LeastWeight net u v w′ → w ≡ w′
+pub one-least : (net : Network) (u v : ℕ) (w w′ : Option ℤ) → LeastBetween net u v w → LeastBetween net u v w′ → w ≡ w′
 one-least net u v none none p q = refl
 one-least net u v none (some w) p (there, least) = absurd (p w there)
 one-least net u v (some w) none (there, least) q = absurd (q w there)
 one-least net u v (some w) (some w′) (there, least) (there′, least′) = ap some (omega (arithℤ, least w′ there′, least′ w there))
 
 -- Where it is the same, networks agree.
-pub same-least : (net net′ : Network) (u v : ℕ) (x : Option ℤ) → LeastWeight net u v x → LeastWeight net′ u v x
-    → (w : Option ℤ) → LeastWeight net u v w ↔ LeastWeight net′ u v w
+pub same-least : (net net′ : Network) (u v : ℕ) (x : Option ℤ) → LeastBetween net u v x → LeastBetween net′ u v x
+    → (w : Option ℤ) → LeastBetween net u v w ↔ LeastBetween net′ u v w
 same-least net net′ u v x p p′ w = (
-  λ q. subst (LeastWeight net′ u v) (one-least net u v x w p q) p′,
-  λ q. subst (LeastWeight net u v) (one-least net′ u v x w p′ q) p,
+  λ q. subst (LeastBetween net′ u v) (one-least net u v x w p q) p′,
+  λ q. subst (LeastBetween net u v) (one-least net′ u v x w p′ q) p,
 )
 
 -- ---- in a row of edges
@@ -46,8 +46,8 @@ module _ (edge : ℕ → Edge) (u v : ℕ) where
   same-weight e x y p q = ap (λ (d : Edge). d .weight) (p ∙ sym q)
 
   -- With edge m, which does not lead from u to v.
-  apart : (m : ℕ) → ((w : ℤ) → between u v w ≢ edge m) → (w : Option ℤ) → LeastWeight (network edge m) u v w
-      → LeastWeight (network edge (suc m)) u v w
+  apart : (m : ℕ) → ((w : ℤ) → between u v w ≢ edge m) → (w : Option ℤ) → LeastBetween (network edge m) u v w
+      → LeastBetween (network edge (suc m)) u v w
   apart m ne none p = λ w real. elim (earlier m (between u v w) real) [ inl r ↦ p w r | inr q ↦ ne w q ]
   apart m ne (some w) (there, least) = (
     later m (between u v w) there,
@@ -55,8 +55,8 @@ module _ (edge : ℕ → Edge) (u v : ℕ) where
   )
 
   -- With edge m, which does, and weighs y.
-  joined : (m : ℕ) (y : ℤ) → between u v y ≡ edge m → (w : Option ℤ) → LeastWeight (network edge m) u v w
-      → (w′ : Option ℤ) × LeastWeight (network edge (suc m)) u v w′
+  joined : (m : ℕ) (y : ℤ) → between u v y ≡ edge m → (w : Option ℤ) → LeastBetween (network edge m) u v w
+      → (w′ : Option ℤ) × LeastBetween (network edge (suc m)) u v w′
   joined m y is none p = (
     some y,
     (
@@ -83,7 +83,7 @@ module _ (edge : ℕ → Edge) (u v : ℕ) where
         )
       ]
 
-  pub row-least : (m : ℕ) → (w : Option ℤ) × LeastWeight (network edge m) u v w
+  pub row-least : (m : ℕ) → (w : Option ℤ) × LeastBetween (network edge m) u v w
   row-least zero = (none, λ w (i, l, q). omega arith)
   row-least (suc m) =
       let (w, p) = row-least m in
@@ -102,14 +102,14 @@ abbrev Covered : Network → Network → Type 0
 Covered net net′ = (e : Edge) → net e → e .from ≢ e .to → (w : ℤ) × net′ (between (e .from) (e .to) w) × (w ≤ℤ e .weight)
 
 covered : (n : ℕ) (net net′ : Network) → Below net n → HasLeast n net
-    → ((u v : ℕ) → u < n → v < n → u ≢ v → (w : Option ℤ) → LeastWeight net u v w → LeastWeight net′ u v w)
+    → ((u v : ℕ) → u < n → v < n → u ≢ v → (w : Option ℤ) → LeastBetween net u v w → LeastBetween net′ u v w)
     → Covered net net′
 covered n net net′ below has same e real ne =
     let (from, to) = below e real in
     let (w, p) = has (e .from) (e .to) from to in
     by w p (same (e .from) (e .to) from to ne w p)
   where
-    by : (w : Option ℤ) → LeastWeight net (e .from) (e .to) w → LeastWeight net′ (e .from) (e .to) w
+    by : (w : Option ℤ) → LeastBetween net (e .from) (e .to) w → LeastBetween net′ (e .from) (e .to) w
         → (w : ℤ) × net′ (between (e .from) (e .to) w) × (w ≤ℤ e .weight)
     by none p q = absurd (p (e .weight) real)
     by (some w) p q = (w, q .0, p .1 (e .weight) real)
