@@ -23,25 +23,19 @@ use Rattle.comparisons.specs.Totals.{LeastPrice, SamePrices}
 use Rattle.comparisons.specs.Facts.{lanes, table, fee, Facts}
 use Rattle.comparisons.proofs.Repriced.{entry-hundredfold}
 
--- ---- what holds of each number below 1, 2 and 3
+-- ---- what holds of each number below n
 
-of-one : (P : ℕ → Type 0) → P 0 → (i : ℕ) → i < 1 → P i
-of-one P p zero l = p
-of-one P p (suc i) l = let no : ⊥ = omega arith in absurd no
+abbrev Each : (P : ℕ → Type 0) → (n : ℕ) → Type 0
+Each P zero = Unit {0}
+Each P (suc n) = P 0 × Each (λ i. P (suc i)) n
 
-of-two : (P : ℕ → Type 0) → P 0 → P 1 → (i : ℕ) → i < 2 → P i
-of-two P p q zero l = p
-of-two P p q (suc zero) l = q
-of-two P p q (suc (suc i)) l = let no : ⊥ = omega arith in absurd no
-
-of-three : (P : ℕ → Type 0) → P 0 → P 1 → P 2 → (i : ℕ) → i < 3 → P i
-of-three P p q r zero l = p
-of-three P p q r (suc zero) l = q
-of-three P p q r (suc (suc zero)) l = r
-of-three P p q r (suc (suc (suc i))) l = let no : ⊥ = omega arith in absurd no
+each : (P : ℕ → Type 0) (n : ℕ) → Each P n → (i : ℕ) → i < n → P i
+each P zero all i l = let no : ⊥ = omega arith in absurd no
+each P (suc n) all zero l = all .0
+each P (suc n) all (suc i) l = each (λ i. P (suc i)) n (all .1) i (omega arith)
 
 pairs : (P : ℕ → ℕ → Type 0) → P 0 0 → P 0 1 → P 1 0 → P 1 1 → (u v : ℕ) → u < 2 → v < 2 → P u v
-pairs P a b c d u v i j = of-two (λ u. P u v) (of-two (P 0) a b v j) (of-two (P 1) c d v j) u i
+pairs P a b c d u v i j = each (λ u. P u v) 2 (each (P 0) 2 (a, (b, tt)) v j, (each (P 1) 2 (c, (d, tt)) v j, tt)) u i
 
 -- ---- requests with other prices
 
@@ -71,8 +65,8 @@ moved-lane : (rest rest′ : List ℕ) (i : ℕ) → i < 1
     → Weighed (moved fee) (edgeOf (0x0001000000000007 ∷ rest) i) (edgeOf (0x000100000000000E ∷ rest′) i)
 unfolding weightOf signedOf
 moved-lane rest rest′ =
-    of-one (λ i. Weighed (moved fee) (edgeOf (0x0001000000000007 ∷ rest) i) (edgeOf (0x000100000000000E ∷ rest′) i))
-    (record { begins = refl; ends = refl; weighs = refl })
+    each (λ i. Weighed (moved fee) (edgeOf (0x0001000000000007 ∷ rest) i) (edgeOf (0x000100000000000E ∷ rest′) i)) 1
+    (record { begins = refl; ends = refl; weighs = refl }, tt)
 
 -- ---- least prices
 
@@ -86,17 +80,17 @@ least = (
   (
     (1, omega arith, refl),
     λ x real.
-        of-three (λ i. between 0 1 x ≡ edgeOf (wordsIn lanes) i → pos 7 ≤ℤ x)
-        (λ q. omega (arithℤ, ap (λ (e : Edge). e .weight) q))
-        (λ q. omega (arithℤ, ap (λ (e : Edge). e .weight) q))
-        (λ q. absurd (omega (arith, ap (λ (e : Edge). e .from) q)))
+        each (λ i. between 0 1 x ≡ edgeOf (wordsIn lanes) i → pos 7 ≤ℤ x) 3 (
+          λ q. omega (arithℤ, ap (λ (e : Edge). e .weight) q),
+          (λ q. omega (arithℤ, ap (λ (e : Edge). e .weight) q), (λ q. absurd (omega (arith, ap (λ (e : Edge). e .from) q)), tt)),
+        )
         (real .0) (real .1) (real .2),
   ),
   λ w real.
-      of-three (λ i. between 1 0 w ≢ edgeOf (wordsIn lanes) i)
-      (λ q. omega (arith, ap (λ (e : Edge). e .from) q))
-      (λ q. omega (arith, ap (λ (e : Edge). e .from) q))
-      (λ q. omega (arith, ap (λ (e : Edge). e .to) q))
+      each (λ i. between 1 0 w ≢ edgeOf (wordsIn lanes) i) 3 (
+        λ q. omega (arith, ap (λ (e : Edge). e .from) q),
+        (λ q. omega (arith, ap (λ (e : Edge). e .from) q), (λ q. omega (arith, ap (λ (e : Edge). e .to) q), tt)),
+      )
       (real .0) (real .1) (real .2),
 )
 
@@ -116,11 +110,11 @@ one-lane rest = (
   (
     (0, omega arith, refl),
     λ x real.
-        of-one (λ i. between 0 1 x ≡ edgeOf (0x0001000000000007 ∷ rest) i → pos 7 ≤ℤ x) (λ q. omega (arithℤ, ap (λ (e : Edge). e .weight) q))
+        each (λ i. between 0 1 x ≡ edgeOf (0x0001000000000007 ∷ rest) i → pos 7 ≤ℤ x) 1 (λ q. omega (arithℤ, ap (λ (e : Edge). e .weight) q), tt)
         (real .0) (real .1) (real .2),
   ),
   λ w real.
-      of-one (λ i. between 1 0 w ≢ edgeOf (0x0001000000000007 ∷ rest) i) (λ q. omega (arith, ap (λ (e : Edge). e .from) q))
+      each (λ i. between 1 0 w ≢ edgeOf (0x0001000000000007 ∷ rest) i) 1 (λ q. omega (arith, ap (λ (e : Edge). e .from) q), tt)
       (real .0) (real .1) (real .2),
 )
 
@@ -142,8 +136,8 @@ facts =
     record {
       printed = record {
         header = refl;
-        words = of-one (λ i. Weighed (scaled 100) (edgeOf (0x00010000FFFFFFFB ∷ []) i) (edgeOf (0x00010000FFFFFE0C ∷ []) i))
-            (record { begins = refl; ends = refl; weighs = refl });
+        words = each (λ i. Weighed (scaled 100) (edgeOf (0x00010000FFFFFFFB ∷ []) i) (edgeOf (0x00010000FFFFFE0C ∷ []) i)) 1
+            (record { begins = refl; ends = refl; weighs = refl }, tt);
       };
       hundredths = record { header = refl; words = entries };
       no-lane = λ p. omega (arith, ap natAbs (p .words 0 0 (omega arith) (omega arith) .no-edge .0 refl));
@@ -159,11 +153,10 @@ facts =
       fees-1 = record {
         header = refl;
         words =
-            of-two
+            each
             (λ i. Weighed (moved fee) (edgeOf (0x0001000000000007 ∷ 0x0100000000000005 ∷ []) i)
             (edgeOf (0x000100000000000E ∷ 0x01000000FFFFFFFE ∷ []) i))
-            (record { begins = refl; ends = refl; weighs = refl })
-            (record { begins = refl; ends = refl; weighs = refl });
+            2 (record { begins = refl; ends = refl; weighs = refl }, (record { begins = refl; ends = refl; weighs = refl }, tt));
       };
       turned = λ p. omega (arith, ap natAbs (p .words 0 (omega arith) .weighs));
       fees-2 = record {

@@ -19,7 +19,7 @@ use Rattle.graph.specs.Reweighed.{Reweighed, Becomes, moved}
 use Rattle.graph.proofs.Distances.{both-unreached}
 use Rattle.graph.proofs.Reweighed.{moved-cycles, moved-distances}
 use Rattle.demands.specs.Run.{Lent, cellsLeft, outcome}
-use Rattle.demands.specs.Network.{networkOf, sourcesOf, CycleFrom}
+use Rattle.demands.specs.Network.{networkOf, networkIn, sourcesOf, CycleFrom}
 use Rattle.demands.specs.Demands.{RanOn, roundsTold, lengthTold, verdictTold, resultOf, SamePublic}
 use Rattle.demands.proofs.Ran.{allowed, verdict-of, verdict-is}
 use Rattle.demands.proofs.Theorems.{demand1, demand2, demand3a, demand3}
@@ -35,7 +35,7 @@ module _ (fee : ℕ → ℤ) (request request′ : List ℕ) (lent lent′ : Len
   h = headerIn request
 
   abbrev net : Network
-  net = networkOf h (wordsIn request)
+  net = networkIn request
 
   -- By the header that both have.
   abbrev net′ : Network

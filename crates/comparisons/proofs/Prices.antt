@@ -13,7 +13,7 @@ use Rattle.limits.specs.WithinLimits.{headerIn, wordsIn}
 use Rattle.graph.specs.LeastBetween.{HasLeast}
 use Rattle.graph.proofs.Int.{arithℤ}
 use Rattle.graph.proofs.LeastBetween.{one-least, row-least}
-use Rattle.demands.specs.Network.{edgeOf, Entered, networkOf}
+use Rattle.demands.specs.Network.{edgeOf, Entered, networkOf, networkIn}
 use Rattle.demands.proofs.Ran.{allowed}
 use Rattle.comparisons.specs.Totals.{OnePrice}
 
@@ -38,4 +38,4 @@ least-there =
 pub one-price : OnePrice
 one-price request lent ran u v i j =
     let (w, p) = least-there (headerIn request) (allowed request lent ran) (wordsIn request) u v i j in
-    (w, p, λ x q. one-least (networkOf (headerIn request) (wordsIn request)) u v x w q p)
+    (w, p, λ x q. one-least (networkIn request) u v x w q p)

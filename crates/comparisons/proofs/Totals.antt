@@ -10,7 +10,7 @@ use Rattle.graph.specs.Walk.{Below}
 use Rattle.graph.specs.Shortest.{Distances}
 use Rattle.graph.specs.LeastBetween.{HasLeast}
 use Rattle.graph.proofs.LeastBetween.{same-distances}
-use Rattle.demands.specs.Network.{networkOf}
+use Rattle.demands.specs.Network.{networkIn}
 use Rattle.demands.specs.Demands.{resultOf}
 use Rattle.demands.proofs.Ran.{allowed, leaves}
 use Rattle.demands.proofs.Sources.{row-by-row, source-inside}
@@ -25,14 +25,14 @@ same-totals request request′ lent lent′ ran ran′ t t′ same s r r′ from
     let h = headerIn request in
     let h′ = headerIn request′ in
     let a = allowed request lent ran in
-    let net′ = networkOf h′ (wordsIn request′) in
+    let net′ = networkIn request′ in
     -- As many vertices as the first has.
     let below′ = subst (Below net′) (same .vertices) (leaves request′ lent′ ran′ .below) in
     let least′ = subst (λ (k : ℕ). HasLeast k net′) (same .vertices) (least-there h′ (allowed request′ lent′ ran′) (wordsIn request′)) in
     let row′ =
     subst (λ (k : ℕ). Distances net′ far k s (distanceIn request′ lent′ r′)) (same .vertices)
     (rw (from′ .source) at (demand2 request′ lent′ .least-totals ran′ t′ r′ (from′ .there))) in
-    same-distances (networkOf h (wordsIn request)) net′ far (h .vertices) s _ _ (leaves request lent ran .below) below′
+    same-distances (networkIn request) net′ far (h .vertices) s _ _ (leaves request lent ran .below) below′
     (rw (from .source) at (source-inside h a r (from .there))) (least-there h a (wordsIn request)) least′ (same .least)
     (rw (from .source) at (demand2 request lent .least-totals ran t r (from .there))) row′ v l
 

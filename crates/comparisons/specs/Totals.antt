@@ -1,14 +1,14 @@
 -- Totals across methods (document 02, ask 9): what two runs give, of any methods, where least prices agree. About outcomes, as the demands are.
 -- Rests on least weights and on the demands.
 use mathlib.Core.Path.{_≡_}
-use mathlib.Core.Logic.{_↔_, _≢_}
+use mathlib.Core.Logic.{_≢_}
 use mathlib.Core.List.{List}
 use mathlib.Core.Option.{Option}
 use Prim.Native.Nat.{ℕ, _+_, _*_, _<_}
 use lib.IntN.{ℤ}
 use Rattle.plans.specs.Plan.{distances, parents, resultsOf}
 use Rattle.limits.specs.WithinLimits.{headerIn}
-use Rattle.graph.specs.LeastBetween.{LeastBetween}
+use Rattle.graph.specs.LeastBetween.{LeastBetween, SameLeast}
 use Rattle.demands.specs.Run.{Lent}
 use Rattle.demands.specs.Network.{networkIn}
 use Rattle.demands.specs.Demands.{RanOn, verdictTold, resultOf}
@@ -27,8 +27,7 @@ OnePrice = (request : List ℕ) (lent : Lent) → RanOn request lent
 -- As many vertices, and from each to each other the same least price, or none in both. Nothing is asked of edges from a vertex to itself.
 pub record SamePrices (request request′ : List ℕ) : Type 0 where
   pub vertices : headerIn request′ .vertices ≡ headerIn request .vertices
-  pub least : (u v : ℕ) → u < headerIn request .vertices → v < headerIn request .vertices → u ≢ v
-      → (w : Option ℤ) → LeastPrice request u v w ↔ LeastPrice request′ u v w
+  pub least : SameLeast (headerIn request .vertices) (networkIn request) (networkIn request′)
 
 -- In two runs without a negative cycle, rows from the same source are the same: unreached vertices, which have FAR, among them.
 abbrev pub SameTotals : Type 0
