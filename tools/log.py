@@ -13,14 +13,13 @@ import signal
 import struct
 import sys
 from itertools import islice
-from pathlib import Path
 from typing import NamedTuple
 
 DESCRIPTION = """\
 Lists a plan or a log of the cell machine as instructions, or compares two
 logs. A file holds words of eight bytes, most significant byte first; with
 --hex it is a text of words of 16 hexadecimal digits, with blanks or line ends
-between them."""
+between them. The file - is standard input."""
 
 LISTING_FORMAT = """\
 `list` prints a line a word: its place (the header's is 0), the word, and what
@@ -53,7 +52,8 @@ with both words as `list` shows them, exit status 1."""
 BAD_INPUT = """\
 Bad input is said on standard error with the name of the file, exit status 2: a
 file that cannot be read, a last word of fewer than eight bytes, with --hex
-anything but words of 16 digits, and for `compare` one file as both A and B.
+anything but words of 16 digits, and for `compare` one file, or standard input,
+as both A and B. So is a standard output that cannot be written.
 
 Hexadecimal text without --hex is bad input too, for its bytes would pass for
 words: a file of nothing but hexadecimal digits, blanks and line ends is taken
@@ -70,6 +70,10 @@ HEADER, OPERATION, PUBLISHED = "the header", "an operation", "a published word"
 
 class BadInput(Exception):
     """A file that does not hold words."""
+
+
+class BadOutput(Exception):
+    """Standard output that cannot be written."""
 
 
 class Operation(NamedTuple):
@@ -165,11 +169,11 @@ def rounds_of(words, is_plan):
     return rounds
 
 
-def print_listing(words, is_plan):
-    """Prints a line for each word, and then the rounds."""
+def listing_lines(words, is_plan):
+    """A line for each word, and then the rounds."""
     for place, (word, role) in enumerate(zip(words, roles(words, is_plan))):
-        print(f"{place:7}  {word_text(word, role)}")
-    print(f"rounds {rounds_of(words, is_plan)}")
+        yield f"{place:7}  {word_text(word, role)}"
+    yield f"rounds {rounds_of(words, is_plan)}"
 
 
 def first_difference(first, second):
@@ -180,19 +184,17 @@ def first_difference(first, second):
     return None if len(first) == len(second) else min(len(first), len(second))
 
 
-def print_comparison(first, second, is_plan):
-    """Prints whether the two are equal, else where and in what they first differ; says whether they are."""
-    place = first_difference(first, second)
+def comparison_lines(first, second, place, is_plan):
+    """That the two are equal, if they differ at no place, else where and in what they first differ."""
     if place is None:
-        print(f"equal, {len(first)} words")
-        return True
+        yield f"equal, {len(first)} words"
+        return
     # Up to this place the two are equal, so the word there has the same role in both.
     role = next(islice(roles(max(first, second, key=len), is_plan), place, None))
     one_ended = place in (len(first), len(second))
-    print(f"differ at place {place}, {'only in length' if one_ended else f'in {role}'}")
+    yield f"differ at place {place}, {'only in length' if one_ended else f'in {role}'}"
     for name, words in (("A", first), ("B", second)):
-        print(f"{name}  {word_text(words[place], role) if place < len(words) else f'ends after {place} words'}")
-    return False
+        yield f"{name}  {word_text(words[place], role) if place < len(words) else f'ends after {place} words'}"
 
 
 def looks_like_text(data):
@@ -240,20 +242,31 @@ def words_in(data, form):
     return words
 
 
+def name_of(file):
+    """The file as messages name it."""
+    return "standard input" if file == "-" else file
+
+
+def opened_by(file):
+    """What opens the file: its name, or standard input's descriptor."""
+    return 0 if file == "-" else file
+
+
 def read_words(file, form):
-    """The words that the file holds; complaints begin with its name."""
+    """The words that the file holds, or standard input; complaints begin with its name."""
     try:
-        return words_in(Path(file).read_bytes(), form)
+        with open(opened_by(file), "rb", closefd=file != "-") as origin:
+            return words_in(origin.read(), form)
     except OSError as error:
-        raise BadInput(f"{file}: cannot be read: {error.strerror}") from error
+        raise BadInput(f"{name_of(file)}: cannot be read: {error.strerror}") from error
     except BadInput as error:
-        raise BadInput(f"{file}: {error}") from error
+        raise BadInput(f"{name_of(file)}: {error}") from error
 
 
 def same_file(first, second):
     """Whether the two names are of one file; of a file that is not there, reading it will complain."""
     try:
-        return os.path.samefile(first, second)
+        return os.path.samefile(opened_by(first), opened_by(second))
     except OSError:
         return False
 
@@ -261,8 +274,24 @@ def same_file(first, second):
 def read_pair(first, second, form):
     """The words of each of two files, which have to be two: a file always equals itself."""
     if same_file(first, second):
-        raise BadInput(f"{second}: A and B are both this file, expected two files")
+        raise BadInput(f"{name_of(second)}: A and B are both this file, expected two files")
     return read_words(first, form), read_words(second, form)
+
+
+def write_lines(lines):
+    """Writes to standard output."""
+    try:
+        with open(1, "w", encoding="utf-8", closefd=False) as sink:
+            sink.writelines(f"{line}\n" for line in lines)
+    except OSError as error:
+        raise BadOutput(f"standard output: cannot be written: {error.strerror}") from error
+
+
+class Parser(argparse.ArgumentParser):
+    """A parser whose help is written as a listing is, and complained of where it cannot be."""
+
+    def print_help(self, file=None):
+        write_lines(self.format_help().splitlines())
 
 
 def parse_arguments(arguments):
@@ -278,7 +307,7 @@ def parse_arguments(arguments):
     )
     common.add_argument("--plan", action="store_true", help="what is read is a plan, not a log: it has no published words")
 
-    parser = argparse.ArgumentParser(
+    parser = Parser(
         prog="log.py",
         description=DESCRIPTION,
         epilog=f"{LISTING_FORMAT}\n\n{COMPARISON_FORMAT}\n\n{BAD_INPUT}",
@@ -292,7 +321,7 @@ def parse_arguments(arguments):
         epilog=f"{LISTING_FORMAT}\n\n{BAD_INPUT}",
         formatter_class=layout,
     )
-    listing.add_argument("file", metavar="FILE")
+    listing.add_argument("file", metavar="FILE", help="the plan or the log; standard input if -")
     comparison = commands.add_parser(
         "compare",
         parents=[common],
@@ -300,22 +329,33 @@ def parse_arguments(arguments):
         epilog=f"{COMPARISON_FORMAT}\n\n{BAD_INPUT}",
         formatter_class=layout,
     )
-    comparison.add_argument("first", metavar="A")
-    comparison.add_argument("second", metavar="B")
+    comparison.add_argument("first", metavar="A", help="a log; standard input if -")
+    comparison.add_argument("second", metavar="B", help="another log; standard input if -")
     return parser.parse_args(arguments)
+
+
+def complain(error):
+    """Says what is wrong on standard error."""
+    try:
+        print(f"log.py: {error}", file=sys.stderr)
+    except OSError:
+        # Python would try once more at the end, and take an exit status of its own.
+        sys.stderr = None
 
 
 def main(arguments=None):
     """Does what the command line asks and returns the exit status."""
-    options = parse_arguments(arguments)
     try:
+        options = parse_arguments(arguments)
         if options.command == "list":
-            print_listing(read_words(options.file, options.form), options.plan)
+            write_lines(listing_lines(read_words(options.file, options.form), options.plan))
             return 0
         first, second = read_pair(options.first, options.second, options.form)
-        return 0 if print_comparison(first, second, options.plan) else 1
-    except BadInput as error:
-        print(f"log.py: {error}", file=sys.stderr)
+        place = first_difference(first, second)
+        write_lines(comparison_lines(first, second, place, options.plan))
+        return 0 if place is None else 1
+    except (BadInput, BadOutput) as error:
+        complain(error)
         return 2
 
 

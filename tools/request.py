@@ -427,9 +427,16 @@ def encoded(words, as_text):
     return b"".join(word.to_bytes(8, "big") for word in words)
 
 
+class Parser(argparse.ArgumentParser):
+    """A parser whose help is written as a request is, and complained of where it cannot be."""
+
+    def print_help(self, file=None):
+        write_bytes(self.format_help().encode(), None)
+
+
 def parse_arguments(arguments):
     """The command line's options."""
-    parser = argparse.ArgumentParser(
+    parser = Parser(
         prog="request.py",
         description=DESCRIPTION,
         epilog=TEXT_FORMAT,
@@ -444,8 +451,8 @@ def parse_arguments(arguments):
 
 def main(arguments=None):
     """Writes the request and returns 0, or says all that is wrong and returns 1."""
-    options = parse_arguments(arguments)
     try:
+        options = parse_arguments(arguments)
         words = request_words(read_text(options.file), options.unchecked)
         write_bytes(encoded(words, options.hex), options.output)
         return 0

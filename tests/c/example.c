@@ -13,11 +13,30 @@ struct buffers {
     uint64_t *log;
 };
 
-static void print_answer(const char *call, const vukstaja_answer answer)
+/* The names of what a call tells, at the places that the header has for them; at the others an answer has 0. */
+typedef const char *const names[8];
+
+#define TOLD_BY_EVERY_CALL \
+    [VUKSTAJA_NUMBER] = "number", [VUKSTAJA_HAS_PLACE] = "has_place", [VUKSTAJA_PLACE] = "place"
+
+static names of_run = {TOLD_BY_EVERY_CALL, [VUKSTAJA_ROUNDS] = "rounds", [VUKSTAJA_LOG_LENGTH] = "log_length",
+                       [VUKSTAJA_VERDICT] = "verdict"};
+static names of_run_plan = {TOLD_BY_EVERY_CALL, [VUKSTAJA_ROUNDS] = "rounds", [VUKSTAJA_LOG_LENGTH] = "log_length"};
+static names of_write_plan = {TOLD_BY_EVERY_CALL, [VUKSTAJA_PLAN_LENGTH] = "plan_length"};
+static names of_sizes = {TOLD_BY_EVERY_CALL, [VUKSTAJA_CELLS] = "cells", [VUKSTAJA_LOG] = "log",
+                         [VUKSTAJA_DISTANCES] = "distances", [VUKSTAJA_PARENTS] = "parents", [VUKSTAJA_ROUTE] = "route"};
+static names of_convert = {TOLD_BY_EVERY_CALL};
+
+/* All eight numbers, each after its name if it has one: a name at a wrong place is seen even where the numbers are alike. */
+static void print_answer(const char *call, names told, const vukstaja_answer answer)
 {
     printf("%s:", call);
-    for (int i = 0; i < 8; i++)
-        printf(" %" PRIu64, answer[i]);
+    for (int i = 0; i < 8; i++) {
+        if (told[i] == NULL)
+            printf(" %" PRIu64, answer[i]);
+        else
+            printf(" %s=%" PRIu64, told[i], answer[i]);
+    }
     printf("\n");
 }
 
@@ -37,7 +56,7 @@ static struct buffers made_for(uint64_t header)
 {
     vukstaja_answer sizes;
     vukstaja_sizes(&header, 1, &sizes);
-    print_answer("sizes", sizes);
+    print_answer("sizes", of_sizes, sizes);
     if (sizes[VUKSTAJA_NUMBER] != 0)
         exit(1);
     return (struct buffers){
@@ -84,7 +103,7 @@ static void run_request(const uint64_t *request, size_t length)
     struct buffers lent = made_for(request[0]);
     vukstaja_answer answer;
     run(request, length, &lent, &answer);
-    print_answer("run", answer);
+    print_answer("run", of_run, answer);
     for (size_t v = 0; v < lent.distances_length; v++)
         printf("%zu %" PRId64 " %" PRId64 "\n", v, lent.distances[v], lent.parents[v]);
     if (lent.route_length > 0)
@@ -98,7 +117,7 @@ static void run_table(const uint64_t *request, size_t length, size_t vertices)
     struct buffers lent = made_for(request[0]);
     vukstaja_answer answer;
     run(request, length, &lent, &answer);
-    print_answer("run", answer);
+    print_answer("run", of_run, answer);
     for (size_t i = 0; i < vertices; i++) {
         printf("from %zu:", i);
         for (size_t j = 0; j < vertices; j++)
@@ -116,12 +135,12 @@ static void run_written_plan(void)
     uint64_t *plan = zeros(lent.log_length);
     vukstaja_answer answer;
     vukstaja_write_plan(header, 1, plan, lent.log_length, &answer);
-    print_answer("write_plan", answer);
+    print_answer("write_plan", of_write_plan, answer);
     lent.cells[1] = 1;
     lent.cells[2] = -5;
     vukstaja_run_plan(plan, answer[VUKSTAJA_PLAN_LENGTH], lent.cells, lent.cells_length,
                       lent.log, lent.log_length, &answer);
-    print_answer("run_plan", answer);
+    print_answer("run_plan", of_run_plan, answer);
     printf("distance of 1: %" PRId64 "\n", lent.cells[4]);
     free(plan);
     give_back(&lent);
@@ -132,7 +151,7 @@ static void convert(const char *call, int64_t *saved, size_t length)
 {
     vukstaja_answer answer;
     vukstaja_convert(saved, length, &answer);
-    print_answer(call, answer);
+    print_answer(call, of_convert, answer);
     printf("saved:");
     for (size_t v = 0; v < length; v++)
         printf(" %" PRId64, saved[v]);
@@ -156,15 +175,15 @@ static void be_refused(void)
     struct buffers lent = made_for(request[0]);
     vukstaja_answer answer;
     run(request, 2, &lent, &answer);
-    print_answer("a weight of 100,000,001", answer);
+    print_answer("a weight of 100,000,001", of_run, answer);
     request[1] = 0x0001000000000000;
     run(request, 2, &lent, &answer);
-    print_answer("an edge to vertex 1 of 1", answer);
+    print_answer("an edge to vertex 1 of 1", of_run, answer);
     lent.log_length -= 1;
     run(request, 2, &lent, &answer);
-    print_answer("a log one word short", answer);
+    print_answer("a log one word short", of_run, answer);
     vukstaja_sizes(unknown, 1, &answer);
-    print_answer("sizes of method 0", answer);
+    print_answer("sizes of method 0", of_sizes, answer);
     give_back(&lent);
 }
 
@@ -174,24 +193,35 @@ static void be_refused_unsorted(void)
     struct buffers lent = made_for(request[0]);
     vukstaja_answer answer;
     run(request, 3, &lent, &answer);
-    print_answer("an edge to vertex 0 after one to vertex 1", answer);
+    print_answer("an edge to vertex 0 after one to vertex 1", of_run, answer);
     give_back(&lent);
 }
 
-/* Edges from 1 to 2 and back lose 1, which vertex 0 does not reach. */
+/* Edges from 1 to 2 and back lose 1. */
+static void be_refused_circle(void)
+{
+    const uint64_t request[] = {0x1000030000200002, 0x0102000000000000, 0x02010000FFFFFFFF};
+    struct buffers lent = made_for(request[0]);
+    vukstaja_answer answer;
+    run(request, 3, &lent, &answer);
+    print_answer("a loss circle that vertex 2 reaches", of_run, answer);
+    give_back(&lent);
+}
+
+/* The same edges: in method 4 it does not matter that vertex 0 does not reach the circle. */
 static void be_refused_table(void)
 {
     uint64_t request[] = {0x4000030000200000, 0x0102000000000000, 0x02010000FFFFFFFF};
     struct buffers lent = made_for(request[0]);
     vukstaja_answer answer;
     run(request, 3, &lent, &answer);
-    print_answer("a loss circle anywhere", answer);
+    print_answer("a loss circle anywhere", of_run, answer);
     lent.distances_length -= 1;
     run(request, 3, &lent, &answer);
-    print_answer("a table one place short", answer);
+    print_answer("a table one place short", of_run, answer);
     request[0] |= 1;
     run(request, 3, &lent, &answer);
-    print_answer("a source of 1 in method 4", answer);
+    print_answer("a source of 1 in method 4", of_run, answer);
     give_back(&lent);
 }
 
@@ -201,7 +231,7 @@ static void be_refused_destination(void)
     struct buffers lent = made_for(request[0]);
     vukstaja_answer answer;
     run(request, 3, &lent, &answer);
-    print_answer("a route to vertex 2 of 2", answer);
+    print_answer("a route to vertex 2 of 2", of_run, answer);
     give_back(&lent);
 }
 
@@ -220,6 +250,7 @@ int main(void)
     convert_saved();
     be_refused();
     be_refused_unsorted();
+    be_refused_circle();
     be_refused_table();
     be_refused_destination();
     return 0;

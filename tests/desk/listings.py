@@ -25,7 +25,8 @@ from network import Network
 from program import printed, to_bytes
 
 NETWORKS = 750
-MOST_YARDS = 6
+MOST_YARDS = 12
+MOST_LANES = 20
 SEED = 6
 
 # The printed case of an unreached yard: to yard 2 there is no lane.  By method,
@@ -53,11 +54,11 @@ ARGUMENTS = (((), False), (("",), False), (("", "all"), False),
 
 
 def draw(draws):
-    """A network; in about two of three a yard is unreached."""
+    """A network; in more than half of them a yard is unreached."""
     method = draws.choice(list(model.METHODS))
     n = draws.randint(1, MOST_YARDS)
     ends = [(draws.randrange(n), draws.randrange(n))
-            for _ in range(draws.randint(0, 2 * n))]
+            for _ in range(draws.randint(0, MOST_LANES))]
     if method == 2:
         lanes = [(*pair, draws.randint(0, 3)) for pair in sorted(set(ends))]
     else:

@@ -1,4 +1,4 @@
-"""The desk's program, run on a request."""
+"""The desk's program, or host_log, run on a request."""
 
 import subprocess
 

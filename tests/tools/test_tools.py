@@ -7,13 +7,16 @@ methods 3, 4 and 5), so that its listing and its rounds are held against figures
 import codecs
 import contextlib
 import io
+import os
 import random
+import signal
 import subprocess
 import sys
 import tempfile
 import unittest
 from itertools import product
 from pathlib import Path
+from unittest import mock
 
 TOOLS = Path(__file__).resolve().parents[2] / "tools"
 sys.path.insert(0, str(TOOLS))
@@ -37,6 +40,9 @@ EDGE_1_LOG = EDGE_1_PLAN + [0]
 
 SET, COPY, ADD, LESS, EQUAL, BOTH, MOVEIF, OPEN = range(8)
 FAR = 2**39 - 1
+
+# How a command line ends that lends no standard output to write to, and what is then said of it.
+UNWRITABLE = {">/dev/full": "No space left on device", ">&-": "Bad file descriptor"}
 
 
 def word(first, second=0, third=0, fourth=0):
@@ -193,12 +199,33 @@ def as_hex(words):
     return "".join(f"{value:016X}\n" for value in words).encode()
 
 
+@contextlib.contextmanager
+def standard_output(file):
+    """Within it this file is standard output, for the tools write to its descriptor."""
+    kept = os.dup(1)
+    os.dup2(file.fileno(), 1)
+    try:
+        yield
+    finally:
+        os.dup2(kept, 1)
+        os.close(kept)
+
+
 def run(tool, *arguments):
     """Exit status, standard output and standard error of a tool's main function."""
-    output, errors = io.StringIO(), io.StringIO()
-    with contextlib.redirect_stdout(output), contextlib.redirect_stderr(errors):
-        status = tool.main([str(argument) for argument in arguments])
-    return status, output.getvalue(), errors.getvalue()
+    errors = io.StringIO()
+    with tempfile.TemporaryFile() as output:
+        with standard_output(output), contextlib.redirect_stderr(errors):
+            status = tool.main([str(argument) for argument in arguments])
+        output.seek(0)
+        return status, output.read().decode(), errors.getvalue()
+
+
+def run_command(tool, *arguments, given=b"", ending=""):
+    """Exit status, standard output and standard error of a tool's command line, which may end in redirections."""
+    line = ["bash", "-c", f'"$0" "$@" {ending}', sys.executable, TOOLS / f"{tool.__name__}.py", *arguments]
+    done = subprocess.run(line, input=given, capture_output=True, check=False)
+    return done.returncode, done.stdout, done.stderr
 
 
 class WithFolder(unittest.TestCase):
@@ -562,6 +589,8 @@ class RequestMessages(WithFolder):
         text = self.file("text", PRINTED_TEXT.encode())
         expected = f"request.py: {self.folder}: cannot be written: Is a directory\n"
         self.assertEqual(run(request, text, "-o", self.folder), (1, "", expected))
+        expected = "request.py: /dev/full: cannot be written: No space left on device\n"
+        self.assertEqual(run(request, text, "-o", "/dev/full"), (1, "", expected))
 
 
 class RequestCommand(WithFolder):
@@ -569,9 +598,8 @@ class RequestCommand(WithFolder):
 
     def test_standard_input_to_standard_output(self):
         for names in ([], ["-"]):
-            command = [sys.executable, TOOLS / "request.py", *names]
-            done = subprocess.run(command, input=PRINTED_TEXT.encode(), capture_output=True, check=True)
-            self.assertEqual((done.stdout, done.stderr), (as_bytes(PRINTED_WORDS), b""))
+            done = run_command(request, *names, given=PRINTED_TEXT.encode())
+            self.assertEqual(done, (0, as_bytes(PRINTED_WORDS), b""))
 
     def test_bad_lines_of_standard_input(self):
         expected = (
@@ -580,25 +608,26 @@ class RequestCommand(WithFolder):
         )
         text = b"method 1\nyards 2\nsource 0\nlane 0 1 1.5\nlane 0 2 1\n"
         for names in ([], ["-"]):
-            command = [sys.executable, TOOLS / "request.py", *names]
-            done = subprocess.run(command, input=text, capture_output=True, check=False)
-            self.assertEqual((done.returncode, done.stdout, done.stderr), (1, b"", expected))
+            self.assertEqual(run_command(request, *names, given=text), (1, b"", expected))
 
     def test_no_standard_input(self):
-        command = ["bash", "-c", '"$0" "$1" <&-', sys.executable, TOOLS / "request.py"]
-        done = subprocess.run(command, capture_output=True, check=False)
         expected = b"request.py: standard input: cannot be read: Bad file descriptor\n"
-        self.assertEqual((done.returncode, done.stdout, done.stderr), (1, b"", expected))
+        self.assertEqual(run_command(request, ending="<&-"), (1, b"", expected))
 
     def test_hexadecimal_to_standard_output(self):
-        command = [sys.executable, TOOLS / "request.py", self.file("text", PRINTED_TEXT.encode()), "--hex"]
-        done = subprocess.run(command, stdin=subprocess.DEVNULL, capture_output=True, check=True)
-        self.assertEqual((done.stdout, done.stderr), (b"1000020000100000\n00010000FFFFFFFB\n", b""))
+        done = run_command(request, self.file("text", PRINTED_TEXT.encode()), "--hex")
+        self.assertEqual(done, (0, b"1000020000100000\n00010000FFFFFFFB\n", b""))
 
     def test_output_file(self):
         text, output = self.file("text", PRINTED_TEXT.encode()), self.folder / "request"
         self.assertEqual(run(request, text, "-o", output), (0, "", ""))
         self.assertEqual(output.read_bytes(), as_bytes(PRINTED_WORDS))
+
+    def test_standard_output_that_cannot_be_written(self):
+        text = self.file("text", PRINTED_TEXT.encode())
+        for arguments, (ending, reason) in product(([text], [text, "--hex"], ["--help"]), UNWRITABLE.items()):
+            expected = f"request.py: standard output: cannot be written: {reason}\n".encode()
+            self.assertEqual(run_command(request, *arguments, ending=ending), (1, b"", expected))
 
 
 class Listing(WithFolder):
@@ -941,10 +970,9 @@ class LogMessages(WithFolder):
             self.assertFalse(log.looks_like_text(as_bytes([word(method, n, m, source)])))
 
     def test_one_form_at_most(self):
-        command = [sys.executable, TOOLS / "log.py", "list", "--hex", "--bytes", "log"]
-        done = subprocess.run(command, capture_output=True, check=False)
-        self.assertEqual(done.returncode, 2)
-        self.assertIn(b"not allowed with argument --hex", done.stderr)
+        status, _, errors = run_command(log, "list", "--hex", "--bytes", "log")
+        self.assertEqual(status, 2)
+        self.assertIn(b"not allowed with argument --hex", errors)
 
     def test_unreadable_hexadecimal(self):
         path = self.file("log", b"1000010000000000\n0000020000000000 00000200000000\n")
@@ -993,9 +1021,95 @@ class LogMessages(WithFolder):
         self.assert_complaint(f"{self.folder}: cannot be read: Is a directory", "compare", good, self.folder)
 
     def test_no_command_line(self):
-        done = subprocess.run([sys.executable, TOOLS / "log.py"], capture_output=True, check=False)
-        self.assertEqual(done.returncode, 2)
-        self.assertIn(b"usage: log.py", done.stderr)
+        status, _, errors = run_command(log)
+        self.assertEqual(status, 2)
+        self.assertIn(b"usage: log.py", errors)
+
+
+class LogCommand(WithFolder):
+    """The ways in and out of log.py."""
+
+    def assert_complaint(self, message, *arguments, **options):
+        expected = (2, b"", f"log.py: {message}\n".encode())
+        self.assertEqual(run_command(log, *arguments, **options), expected)
+
+    def test_list_standard_input(self):
+        cases = [
+            (as_bytes(EDGE_1_LOG), []),
+            (as_bytes(EDGE_1_LOG), ["--bytes"]),
+            (as_hex(EDGE_1_LOG), ["--hex"]),
+            (as_bytes(EDGE_1_PLAN), ["--plan"]),
+        ]
+        for data, options in cases:
+            status, output, errors = run(log, "list", self.file("log", data), *options)
+            self.assertEqual((status, errors), (0, ""))
+            self.assertEqual(run_command(log, "list", "-", *options, given=data), (0, output.encode(), b""))
+
+    def test_compare_standard_input(self):
+        published = ["0000000000000000  published 0", "0000000000000001  published 1"]
+        differ = "differ at place 7, in a published word\nA  {}\nB  {}\n".format
+        for form, options in ((as_bytes, []), (as_hex, ["--hex"])):
+            path, same, other = self.file("log", form(EDGE_1_LOG)), form(EDGE_1_LOG), form(EDGE_1_PLAN + [1])
+            for names, shown in ((("-", path), published[::-1]), ((path, "-"), published)):
+                done = run_command(log, "compare", *names, *options, given=same)
+                self.assertEqual(done, (0, b"equal, 8 words\n", b""))
+                done = run_command(log, "compare", *names, *options, given=other)
+                self.assertEqual(done, (1, differ(*shown).encode(), b""))
+
+    def test_one_input_twice(self):
+        path = self.file("log", as_bytes(EDGE_1_LOG))
+        message = "{}: A and B are both this file, expected two files".format
+        self.assert_complaint(message("standard input"), "compare", "-", "-", given=as_bytes(EDGE_1_LOG))
+        self.assert_complaint(message("standard input"), "compare", path, "-", ending=f"<'{path}'")
+        self.assert_complaint(message(path), "compare", "-", path, ending=f"<'{path}'")
+
+    def test_bad_standard_input(self):
+        path = self.file("log", as_bytes(EDGE_1_LOG))
+        for names in (["list", "-"], ["compare", "-", path], ["compare", path, "-"]):
+            message = "standard input: cannot be read: Bad file descriptor"
+            self.assert_complaint(message, *names, ending="<&-")
+            message = "standard input: 61 bytes, expected a multiple of 8"
+            self.assert_complaint(message, *names, given=as_bytes(EDGE_1_LOG)[:-3])
+            self.assert_complaint("standard input: empty, expected at least a header word", *names)
+        looks = "looks like hexadecimal text: --hex reads it (or --bytes, if it is a log of bytes all the same)"
+        self.assert_complaint(f"standard input: {looks}", "list", "-", given=as_hex(EDGE_1_LOG))
+        message = "standard input: line 2: `x` is no word, expected 16 hexadecimal digits"
+        self.assert_complaint(message, "list", "--hex", "-", given=as_hex(EDGE_1_LOG[:1]) + b"x\n")
+
+    def test_standard_output_that_cannot_be_written(self):
+        path, same = self.file("A", as_bytes(EDGE_1_LOG)), self.file("B", as_bytes(EDGE_1_LOG))
+        other, long = self.file("C", as_bytes(EDGE_1_PLAN + [1])), self.file("long", as_bytes(plan_of_method_2(9, 0)))
+        # What is asked, and its exit status where it can be answered.
+        answered = [
+            (["list", path], 0),
+            (["list", long], 0),
+            (["compare", path, same], 0),
+            (["compare", path, other], 1),
+            (["--help"], 0),
+            (["list", "--help"], 0),
+            (["compare", "--help"], 0),
+        ]
+        for arguments, status in answered:
+            done = run_command(log, *arguments)
+            self.assertEqual((done[0], done[2]), (status, b""))
+            for ending, reason in UNWRITABLE.items():
+                self.assert_complaint(f"standard output: cannot be written: {reason}", *arguments, ending=ending)
+
+    def test_nothing_that_can_be_written(self):
+        path, other = self.file("A", as_bytes(EDGE_1_LOG)), self.file("B", as_bytes(EDGE_1_PLAN + [1]))
+        for unbuffered, ending in product(("", "1"), (">/dev/full 2>&1", ">&- 2>&-")):
+            with mock.patch.dict(os.environ, PYTHONUNBUFFERED=unbuffered):
+                self.assertEqual(run_command(log, "compare", path, other, ending=ending), (2, b"", b""))
+
+    def test_reader_that_has_ended(self):
+        long = self.file("long", as_bytes(plan_of_method_2(12, 0)))
+        status, *said = run_command(log, "list", long, ending="| true; exit ${PIPESTATUS[0]}")
+        self.assertEqual((status, said), (128 + signal.SIGPIPE, [b"", b""]))
+
+    def test_help_names_standard_input(self):
+        self.assertIn(b"The file - is standard input.", run_command(log, "--help")[1])
+        for command, count in (("list", 1), ("compare", 2)):
+            self.assertEqual(run_command(log, command, "--help")[1].count(b"standard input if -\n"), count)
 
 
 class Together(WithFolder):

@@ -7,7 +7,7 @@ ghost use lib.Dec.{T};
 ghost use lib.ListN.{length};
 ghost use Rattle.machine.specs.Word.{decodeAt, admissibleAt, admissible};
 ghost use Rattle.machine.specs.Log.{Admitted};
-ghost use Rattle.machine.specs.Depth.{depthOf};
+ghost use Rattle.machine.specs.Depth.{rounds, depthOf};
 ghost use Rattle.deepening.specs.Word.{depthBy, Deepens, NoDeeper};
 ghost use Rattle.charge.specs.Table.{depthsIn};
 
@@ -24,8 +24,8 @@ fn depth_at(table: &[u32], a: u64) -> u64
 }
 
 // The depth of a word. An op other than SET that has no b or no d has 0 in its place, and there is a cell 0.
-fn depth_of(table: &[u32], w: Parts) -> u64
-    requires { ⌜ T (admissibleAt (length (now table)) (w .op) (w .d) (w .a) (w .b)) ⌝ }
+fn depth_of(column: &[u64; 8], table: &[u32], w: Parts) -> u64
+    requires { ⌜ (now column ≡ rounds) × T (admissibleAt (length (now table)) (w .op) (w .d) (w .a) (w .b)) ⌝ }
     ensures { λ r. ⌜ r ≡ depthBy (decodeAt (w .op) (w .d) (w .a) (w .b)) (depthsIn (now (table .entry))) ⌝ }
 {
     if w.op == ops::SET {
@@ -34,16 +34,16 @@ fn depth_of(table: &[u32], w: Parts) -> u64
     let x = depth_at(table, w.a);
     let y = depth_at(table, w.b);
     let z = depth_at(table, w.d);
-    deepening::depth_from(w.op, x, y, z)
+    deepening::depth_from(column, w.op, x, y, z)
 }
 
 // That depth, which the cell that the word writes takes.
-fn deepen(table: &mut [u32], word: u64) -> u64
-    requires { ⌜ T (admissible (length (now table)) word) × NoDeeper (2 ^ 31) (depthsIn (now table)) ⌝ }
+fn deepen(column: &[u64; 8], table: &mut [u32], word: u64) -> u64
+    requires { ⌜ (now column ≡ rounds) × T (admissible (length (now table)) word) × NoDeeper (2 ^ 31) (depthsIn (now table)) ⌝ }
     ensures { λ r. ⌜ Deepens word (depthsIn (now (table .entry))) r (depthsIn (now (table .exit))) ⌝ }
 {
     let w = ops::split(word);
-    let depth = depth_of(table, w);
+    let depth = depth_of(column, table, w);
     if w.op == ops::OPEN {
         return depth;
     }
@@ -56,10 +56,11 @@ fn deepen_all(words: &[u64], table: &mut [u32]) -> u64
     requires { ⌜ Admitted (length (now table)) (now words) × (length (now words) ≤ 2 ^ 24) × NoDeeper 0 (depthsIn (now table)) ⌝ }
     ensures { λ r. ⌜ r ≡ depthOf (now (words .entry)) ⌝ }
 {
+    let column = deepening::column();
     let mut rounds: u64 = 0;
     let mut k: usize = 0;
     while k < words.len() {
-        rounds = ops::greater(rounds, deepen(table, words[k]));
+        rounds = ops::greater(rounds, deepen(&column, table, words[k]));
         k += 1;
     }
     rounds

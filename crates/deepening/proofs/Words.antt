@@ -19,17 +19,11 @@ use Rattle.deepening.specs.Word.{readOf, depthFrom, depthBy, deepenedBy,
 
 -- ---- what an op costs, and what it reads
 
-pub one-left : (op : ℕ) → op < 8 → op ≢ 1 → op ≢ 2 → op ≢ 3 → op ≢ 4 → 1 ≡ getD rounds op 0
-one-left =
-    eight (λ (op : ℕ). op ≢ 1 → op ≢ 2 → op ≢ 3 → op ≢ 4 → 1 ≡ getD rounds op 0)
-    (λ _ _ _ _. refl)
-    (λ n _ _ _. absurd (n refl))
-    (λ _ n _ _. absurd (n refl))
-    (λ _ _ n _. absurd (n refl))
-    (λ _ _ _ n. absurd (n refl))
-    (λ _ _ _ _. refl)
-    (λ _ _ _ _. refl)
-    (λ _ _ _ _. refl)
+pub six-most : (op : ℕ) → op < 8 → getD rounds op 0 ≤ 6
+six-most =
+    eight (λ (op : ℕ). getD rounds op 0 ≤ 6)
+    (omega arith) (omega arith) (omega arith) (omega arith)
+    (omega arith) (omega arith) (omega arith) (omega arith)
 
 pub two-left : (op x y z : ℕ) → op < 8 → op ≢ 0 → op ≢ 1 → op ≢ 6 → op ≢ 7 → max x y ≡ readOf op x y z
 unfolding readOf

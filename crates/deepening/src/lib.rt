@@ -1,8 +1,7 @@
 // A word's depth from those of its cells, wherever these are kept.
 // Rests on ops.
 ghost use mathlib.Core.Path.{_≡_};
-ghost use Prim.Native.Nat.{_^_, _<_, _≤_};
-ghost use lib.ListN.{getD};
+ghost use Prim.Native.Nat.{_^_, _<_};
 ghost use Rattle.machine.specs.Depth.{rounds};
 ghost use Rattle.deepening.specs.Word.{readOf, depthFrom};
 
@@ -19,23 +18,19 @@ fn read_depth(op: u64, x: u64, y: u64, z: u64) -> u64
     }
 }
 
-// The column.
-fn rounds_of(op: u64) -> u64
-    requires { ⌜ op < 8 ⌝ }
-    ensures { λ r. ⌜ (r ≡ getD rounds op 0) × (r ≤ 6) ⌝ }
+// The column "rounds" of the rules, by op.
+const ROUNDS: [u64; 8] = [1, 0, 0, 6, 6, 1, 1, 1];
+
+// It is made once and lent: a table that is indexed in a loop would be made anew in every turn.
+pub fn column() -> [u64; 8]
+    ensures { λ r. ⌜ r ≡ rounds ⌝ }
 {
-    match op {
-        1 => 0,
-        2 => 0,
-        3 => 6,
-        4 => 6,
-        _ => 1,
-    }
+    ROUNDS
 }
 
-pub fn depth_from(op: u64, x: u64, y: u64, z: u64) -> u64
-    requires { ⌜ (0 < op) × (op < 8) × (x < 2 ^ 40) × (y < 2 ^ 40) × (z < 2 ^ 40) ⌝ }
+pub fn depth_from(column: &[u64; 8], op: u64, x: u64, y: u64, z: u64) -> u64
+    requires { ⌜ (now column ≡ rounds) × (0 < op) × (op < 8) × (x < 2 ^ 40) × (y < 2 ^ 40) × (z < 2 ^ 40) ⌝ }
     ensures { λ r. ⌜ r ≡ depthFrom op x y z ⌝ }
 {
-    read_depth(op, x, y, z) + rounds_of(op)
+    read_depth(op, x, y, z) + column[op as usize]
 }

@@ -13,7 +13,7 @@ use Rattle.plans.specs.Plan.{cellsOf, resultsOf}
 use Rattle.limits.specs.Refusal.{logLengthOf}
 use Rattle.limits.specs.WithinLimits.{headerIn}
 use Rattle.intake.proofs.Copied.{copied-beyond}
-use Rattle.demands.specs.Run.{Lent, startOf, logOfRun, cellsLeft}
+use Rattle.demands.specs.Run.{Lent, startOf, logOfRun, cellsLeft, outcome}
 use Rattle.demands.specs.Demands.{RanOn, Beyond}
 use Rattle.demands.proofs.Intake.{lent-cells, long}
 use Rattle.demands.proofs.Taken.{enough}
@@ -39,7 +39,7 @@ module _ (request : List ℕ) (lent : Lent) (ran : RanOn request lent) where
       ext-getD (pos 0) _ _ same-length
       (λ i l. getD-drop needed (cellsLeft request lent) i (pos 0) ∙ other-cell i ∙ sym (getD-drop needed (lent .cells) i (pos 0)))
 
-  pub beyond : Beyond request lent
+  pub beyond : Beyond (outcome request lent) request lent
   beyond =
       let log = logOfRun request lent in
       let size = log-long request lent ran in

@@ -10,3 +10,4 @@ pub mod Beyond
 pub mod Told
 pub mod Refused
 pub mod Theorems
+pub mod Plain

@@ -6,9 +6,9 @@ use mathlib.Core.List.{List, [], _∷_, _++_, append-cancel-left}
 use mathlib.Core.Option.{Option, none, some, Option·some-ne-none}
 use Prim.Native.Nat.{ℕ, _^_, _<_, _≤_}
 use lib.ListN.{length, getD}
-use Rattle.machine.specs.Log.{replay, withoutPublished}
+use Rattle.machine.specs.Log.{replay, AsTheyStood, withoutPublished}
 use Rattle.machine.specs.Depth.{chargeOf}
-use Rattle.machine.proofs.Replayed.{replay-log, words-log}
+use Rattle.machine.proofs.Replayed.{replay-log, words-log, told-log}
 use Rattle.plans.specs.declared.Header.{Header}
 use Rattle.plans.specs.Plan.{cellsOf, planOf, verdictCell, published, roundsOfPlan}
 use Rattle.plans.proofs.Addresses.{admitted-plan}
@@ -36,6 +36,9 @@ module _ (request : List ℕ) (lent : Lent) (ran : RanOn request lent) where
   pub charged : roundsTold request lent ≡ chargeOf (logTold request lent)
   charged = rw (log-told request lent ran) (rounds-are request lent ran)
 
+  pub as-they-stood : AsTheyStood (logTold request lent) (startOf request lent)
+  as-they-stood = rw (log-told request lent ran) (told-log (planOf (headerIn request)) (startOf request lent))
+
   pub planned : withoutPublished (logTold request lent) ≡ planOf (headerIn request)
   planned = rw (log-told request lent ran) (words-log (planOf (headerIn request)) (startOf request lent))
 
@@ -46,6 +49,9 @@ module _ (request : List ℕ) (lent : Lent) (ran : RanOn request lent) where
   pub rounds-figure : roundsTold request lent ≡ roundsOfPlan (headerIn request)
   rounds-figure =
       rounds-are request lent ran ∙ rounds-log (headerIn request) (allowed request lent ran) (startOf request lent)
+
+  pub start-long : length (startOf request lent) ≡ length (lent .cells)
+  start-long = long request lent (enough request lent (inside request lent ran))
 
 -- ---- two runs
 

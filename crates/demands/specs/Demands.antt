@@ -12,7 +12,7 @@ use Rattle.answers.specs.Refusal.{plain, placed}
 use Rattle.answers.specs.Told.{refused}
 use Rattle.machine.specs.Instruction.{All}
 use Rattle.machine.specs.Effect.{cellAt}
-use Rattle.machine.specs.Log.{Spares, replay, withoutPublished}
+use Rattle.machine.specs.Log.{Spares, replay, AsTheyStood, withoutPublished}
 use Rattle.machine.specs.Depth.{chargeOf}
 use Rattle.plans.specs.Limits.{far}
 use Rattle.plans.specs.Plan.{cellsOf, instructionsOf, planOf, Kind, distances, parents, resultsOf, verdictCell, published, roundsOfPlan}
@@ -25,7 +25,7 @@ use Rattle.graph.specs.Walk.{NegativeCycle}
 use Rattle.graph.specs.Shortest.{Distances, Parents, Shortest}
 use Rattle.graph.specs.Floyd.{Anywhere}
 use Rattle.methods.specs.Bank.{Summed, Exact}
-use Rattle.demands.specs.Run.{Lent, lengthsOf, refusalOf, startOf, refusedBy, outcome}
+use Rattle.demands.specs.Run.{Lent, lengthsOf, refusalOf, startOf, Outcome, refusedBy, outcome}
 use Rattle.demands.specs.Network.{networkIn, namingIn, sourcesOf, CycleFrom}
 use Rattle.demands.specs.Besides.{besidesOf}
 use Rattle.demands.specs.Sums.{sumBound}
@@ -34,47 +34,60 @@ use Rattle.demands.specs.Sums.{sumBound}
 abbrev pub RanOn : (request : List ℕ) → Lent → Type 0
 RanOn request lent = refusalOf request lent ≡ none
 
--- What was told: rounds, log length and verdict; and the log, that many words from the start of the log buffer.
+-- What was told: rounds, log length and verdict; and the log, that many words from the start of the log buffer. Of any outcome, and of the run's.
+module _ (o : Outcome) where
+  abbrev pub roundsIn : ℕ
+  roundsIn = getD (o .answer .values) 0 0
+
+  abbrev pub lengthIn : ℕ
+  lengthIn = getD (o .answer .values) 1 0
+
+  abbrev pub verdictIn : ℕ
+  verdictIn = getD (o .answer .values) 2 0
+
+  abbrev pub logIn : List ℕ
+  logIn = take lengthIn (o .log)
+
 module _ (request : List ℕ) (lent : Lent) where
   abbrev pub roundsTold : ℕ
-  roundsTold = getD (outcome request lent .answer .values) 0 0
+  roundsTold = roundsIn (outcome request lent)
 
   abbrev pub lengthTold : ℕ
-  lengthTold = getD (outcome request lent .answer .values) 1 0
+  lengthTold = lengthIn (outcome request lent)
 
   abbrev pub verdictTold : ℕ
-  verdictTold = getD (outcome request lent .answer .values) 2 0
+  verdictTold = verdictIn (outcome request lent)
 
   abbrev pub logTold : List ℕ
-  logTold = take lengthTold (outcome request lent .log)
+  logTold = logIn (outcome request lent)
 
 -- ---- demand 1: runs and refusals
 
 -- What lies beyond the needed parts is as it was lent.
-pub record Beyond (request : List ℕ) (lent : Lent) : Type 0 where
-  pub cells : drop (cellsOf (headerIn request)) (outcome request lent .cells)
+pub record Beyond (o : Outcome) (request : List ℕ) (lent : Lent) : Type 0 where
+  pub cells : drop (cellsOf (headerIn request)) (o .cells)
       ≡ drop (cellsOf (headerIn request)) (lent .cells)
-  pub log : drop (logLengthOf (headerIn request)) (outcome request lent .log)
+  pub log : drop (logLengthOf (headerIn request)) (o .log)
       ≡ drop (logLengthOf (headerIn request)) (lent .log)
   pub results : (k : Kind)
-      → drop (resultsOf (headerIn request) k .count) (outcome request lent .results k)
+      → drop (resultsOf (headerIn request) k .count) (o .results k)
       ≡ drop (resultsOf (headerIn request) k .count) (lent .results k)
 
-pub record Demand1 (request : List ℕ) (lent : Lent) : Type 0 where
+pub record Demand1By (o : Outcome) (request : List ℕ) (lent : Lent) : Type 0 where
   -- Every request within the limits is run to its end, and no other.
   pub runs : RanOn request lent ↔ WithinLimits request (lengthsOf lent)
   -- Every other gets its number and, where there is one, its place, and changes no lent buffer: it is refused by r.
   pub refuses : (r : Refusal) → refusalOf request lent ≡ some r
-      → outcome request lent ≡ record { answer = refused r; cells = lent .cells; log = lent .log; results = lent .results }
+      → o ≡ record { answer = refused r; cells = lent .cells; log = lent .log; results = lent .results }
   -- By a number alone exactly where that is the number of the first public limit that it breaks; or where it keeps those and every word's, and it is
   -- the number of the first limit broken after them (method 5's destination).
   pub refuses-plain : (number : ℕ)
-      → (outcome request lent ≡ refusedBy (plain number) lent)
+      → (o ≡ refusedBy (plain number) lent)
       ↔ (FirstBroken (publicLimits request (lengthsOf lent)) number ⊎ BrokenLast request (lengthsOf lent) number)
   -- By a number and a place exactly where it keeps those, the word there is the first that breaks a limit, and the number is that of the first
   -- limit that this word breaks.
   pub refuses-word : (number place : ℕ)
-      → (outcome request lent ≡ refusedBy (placed number place) lent) ↔ BrokenAt request (lengthsOf lent) place number
+      → (o ≡ refusedBy (placed number place) lent) ↔ BrokenAt request (lengthsOf lent) place number
   -- There is nothing else: it keeps every limit, or breaks one that is public, or one of a word, or one after them.
   pub settled : WithinLimits request (lengthsOf lent)
       ⊎ ((number : ℕ) × FirstBroken (publicLimits request (lengthsOf lent)) number)
@@ -82,41 +95,52 @@ pub record Demand1 (request : List ℕ) (lent : Lent) : Type 0 where
       ⊎ ((number : ℕ) × BrokenLast request (lengthsOf lent) number)
   -- A run is told by 0 or, with verdict 1, by 12, with rounds, log length and verdict.
   pub tells : RanOn request lent
-      → (outcome request lent .answer
-      ≡ record { number = 0; place = none; values = roundsTold request lent ∷ lengthTold request lent ∷ 0 ∷ [] })
-      ⊎ (outcome request lent .answer
-      ≡ record { number = 12; place = none; values = roundsTold request lent ∷ lengthTold request lent ∷ 1 ∷ [] })
+      → (o .answer
+      ≡ record { number = 0; place = none; values = roundsIn o ∷ lengthIn o ∷ 0 ∷ [] })
+      ⊎ (o .answer
+      ≡ record { number = 12; place = none; values = roundsIn o ∷ lengthIn o ∷ 1 ∷ [] })
   -- A negative cycle leaves cells and log, and no results.
-  pub no-results : RanOn request lent → verdictTold request lent ≡ 1
-      → (k : Kind) → outcome request lent .results k ≡ lent .results k
-  pub beyond : RanOn request lent → Beyond request lent
+  pub no-results : RanOn request lent → verdictIn o ≡ 1
+      → (k : Kind) → o .results k ≡ lent .results k
+  pub beyond : RanOn request lent → Beyond o request lent
+
+-- .. of what the run answers and leaves.
+abbrev pub Demand1 : (request : List ℕ) → Lent → Type 0
+Demand1 request lent = Demand1By (outcome request lent) request lent
 
 -- ---- demand 2: least walks
 
--- Number i of the results of a kind.
+-- Number i of the results of a kind, of any outcome and of the run's.
+abbrev pub resultIn : Outcome → Kind → (i : ℕ) → ℤ
+resultIn o k i = getD (o .results k) i (pos 0)
+
 abbrev pub resultOf : (request : List ℕ) → Lent → Kind → (i : ℕ) → ℤ
-resultOf request lent k i = getD (outcome request lent .results k) i (pos 0)
+resultOf request lent = resultIn (outcome request lent)
 
 -- Method 4 has every vertex as a source, with a row of distances for each, and gives no parents; the others have one source, the header's.
-pub record Demand2 (request : List ℕ) (lent : Lent) : Type 0 where
-  pub cycle : RanOn request lent → (verdictTold request lent ≡ 1) ↔ CycleFrom (networkIn request) (sourcesOf (headerIn request))
-  pub no-cycle : RanOn request lent → (verdictTold request lent ≡ 0) ↔ ¬ CycleFrom (networkIn request) (sourcesOf (headerIn request))
+pub record Demand2By (o : Outcome) (request : List ℕ) (lent : Lent) : Type 0 where
+  pub cycle : RanOn request lent → (verdictIn o ≡ 1) ↔ CycleFrom (networkIn request) (sourcesOf (headerIn request))
+  pub no-cycle : RanOn request lent → (verdictIn o ≡ 0) ↔ ¬ CycleFrom (networkIn request) (sourcesOf (headerIn request))
   -- The distances given are a row for each source: least totals over all walks from it, FAR exactly where none leads.
   pub rows : RanOn request lent
       → resultsOf (headerIn request) distances .count ≡ length (sourcesOf (headerIn request)) * headerIn request .vertices
-  pub least-totals : RanOn request lent → verdictTold request lent ≡ 0 → (r : ℕ) → r < length (sourcesOf (headerIn request))
+  pub least-totals : RanOn request lent → verdictIn o ≡ 0 → (r : ℕ) → r < length (sourcesOf (headerIn request))
       → Distances (networkIn request) far (headerIn request .vertices) (getD (sourcesOf (headerIn request)) r 0)
-      (λ v. resultOf request lent distances (r * headerIn request .vertices + v))
+      (λ v. resultIn o distances (r * headerIn request .vertices + v))
   -- The parents, where a method gives them: last steps of least walks from the header's source, that lead back to it.
-  pub parent-marks : RanOn request lent → verdictTold request lent ≡ 0 → resultsOf (headerIn request) parents .count ≢ 0
+  pub parent-marks : RanOn request lent → verdictIn o ≡ 0 → resultsOf (headerIn request) parents .count ≢ 0
       → Parents (networkIn request) (namingIn request) far (headerIn request .vertices) (headerIn request .source)
-      (resultOf request lent distances) (resultOf request lent parents)
+      (resultIn o distances) (resultIn o parents)
   -- What the method fixes of them besides: in method 3 they are those of synchronous passes, each reading the distances of the pass before, the
   -- least offer to each vertex, by the lowest edge among equal ones, taken on a strict gain only. In method 5 the route is the parents followed back
   -- from the destination: for a reached one edges that, the last first, lead to it from the source with its distance as total, and then -1; for the
   -- source and an unreached one -1 alone.
-  pub besides : RanOn request lent → verdictTold request lent ≡ 0
-      → besidesOf (headerIn request) (wordsIn request) (resultOf request lent)
+  pub besides : RanOn request lent → verdictIn o ≡ 0
+      → besidesOf (headerIn request) (wordsIn request) (resultIn o)
+
+-- .. of what the run answers and leaves.
+abbrev pub Demand2 : (request : List ℕ) → Lent → Type 0
+Demand2 request lent = Demand2By (outcome request lent) request lent
 
 -- Of a method that gives parents, which has one source, in fewer words: all but method 4.
 pub record OneSource (request : List ℕ) (lent : Lent) : Type 0 where
@@ -149,33 +173,40 @@ abbrev pub Demand3a : Type 0
 Demand3a = (request request′ : List ℕ) (lent lent′ : Lent) → RanOn request lent → RanOn request′ lent′
     → (logTold request lent ≡ logTold request′ lent′) ↔ SamePublic request lent request′ lent′
 
-pub record Demand3 (request : List ℕ) (lent : Lent) : Type 0 where
+pub record Demand3By (o : Outcome) (request : List ℕ) (lent : Lent) : Type 0 where
   -- (b) The log alone, carried out from the starting cells, leaves what the run left, every lent cell; the rounds are the log's charge, the greatest
   -- depth of its words, the published ones passed over (document 02, ask 4).
-  pub carried-out : RanOn request lent → replay (logTold request lent) (startOf request lent) ≡ some (outcome request lent .cells)
-  pub charged : RanOn request lent → roundsTold request lent ≡ chargeOf (logTold request lent)
+  pub carried-out : RanOn request lent → replay (logIn o) (startOf request lent) ≡ some (o .cells)
+  pub charged : RanOn request lent → roundsIn o ≡ chargeOf (logIn o)
+  -- The word after each OPEN in it is the opened cell as it then stood.
+  pub as-they-stood : RanOn request lent → AsTheyStood (logIn o) (startOf request lent)
   -- (c) The log without its published words is the plan of the header, whichever the verdict. With them it is that plan and the verdict, and
   -- its first word is the request's own.
-  pub planned : RanOn request lent → withoutPublished (logTold request lent) ≡ planOf (headerIn request)
+  pub planned : RanOn request lent → withoutPublished (logIn o) ≡ planOf (headerIn request)
   pub verdict-last : RanOn request lent
-      → logTold request lent ≡ planOf (headerIn request) ++ published (verdictCell (headerIn request)) (verdictTold request lent)
-  pub own-header : RanOn request lent → getD request 0 0 < 2 ^ 64 → getD (logTold request lent) 0 0 ≡ getD request 0 0
+      → logIn o ≡ planOf (headerIn request) ++ published (verdictCell (headerIn request)) (verdictIn o)
+  pub own-header : RanOn request lent → getD request 0 0 < 2 ^ 64 → getD (logIn o) 0 0 ≡ getD request 0 0
   -- The length and the rounds told are the documents' figures for the header, and the log has that many words.
-  pub length-figure : RanOn request lent → lengthTold request lent ≡ logLengthOf (headerIn request)
-  pub length-whole : RanOn request lent → length (logTold request lent) ≡ lengthTold request lent
-  pub rounds-figure : RanOn request lent → roundsTold request lent ≡ roundsOfPlan (headerIn request)
+  pub length-figure : RanOn request lent → lengthIn o ≡ logLengthOf (headerIn request)
+  pub length-whole : RanOn request lent → length (logIn o) ≡ lengthIn o
+  pub rounds-figure : RanOn request lent → roundsIn o ≡ roundsOfPlan (headerIn request)
   -- (d) Each needed cell starts with one field of a word or 0, as the header says; the others as lent. Results are copies of cells left.
   pub laid-cells : RanOn request lent → (k : ℕ) → k < cellsOf (headerIn request)
       → cellAt (startOf request lent) k ≡ laid (wordsIn request) (sourceOf (headerIn request) k)
+  pub start-long : RanOn request lent → length (startOf request lent) ≡ length (lent .cells)
   pub lent-cells : RanOn request lent → (k : ℕ) → cellsOf (headerIn request) ≤ k
       → cellAt (startOf request lent) k ≡ cellAt (lent .cells) k
-  pub copied-results : RanOn request lent → verdictTold request lent ≡ 0 → (k : Kind) (i : ℕ) → i < resultsOf (headerIn request) k .count
-      → resultOf request lent k i ≡ cellAt (outcome request lent .cells) (resultsOf (headerIn request) k .first + i)
+  pub copied-results : RanOn request lent → verdictIn o ≡ 0 → (k : Kind) (i : ℕ) → i < resultsOf (headerIn request) k .count
+      → resultIn o k i ≡ cellAt (o .cells) (resultsOf (headerIn request) k .first + i)
   -- (e) Every ADD that is carried out gives the exact sum.
   pub exact : RanOn request lent → Exact (instructionsOf (headerIn request)) (startOf request lent)
   -- It lies where `sumBound` says, whatever the verdict: every total that is formed from a reached vertex is below FAR (document 02, ask 7), and in
   -- method 4 no sum passes 64 bits (ask 8).
   pub bounded : RanOn request lent → Summed (sumBound (headerIn request)) (instructionsOf (headerIn request)) (startOf request lent)
+
+-- .. of what the run answers and leaves.
+abbrev pub Demand3 : (request : List ℕ) → Lent → Type 0
+Demand3 request lent = Demand3By (outcome request lent) request lent
 
 -- ---- foreign plans: demands 1 and 3 of the runner
 
@@ -210,5 +241,7 @@ pub record DemandPlan (plan : List ℕ) (cells : List ℤ) (log : List ℕ) : Ty
       → cellAt (planOutcome plan cells log .cells) k ≡ cellAt cells k
   -- The log alone, carried out from the lent cells, leaves what the run left; the rounds are its charge; without its published words it is the plan.
   pub carried-out : PlanRanOn plan cells log → replay (planLog plan cells log) cells ≡ some (planOutcome plan cells log .cells)
+  pub as-they-stood : PlanRanOn plan cells log → AsTheyStood (planLog plan cells log) cells
+  pub length-whole : PlanRanOn plan cells log → length (planLog plan cells log) ≡ planLength plan cells log
   pub charged : PlanRanOn plan cells log → planRounds plan cells log ≡ chargeOf (planLog plan cells log)
   pub planned : PlanRanOn plan cells log → withoutPublished (planLog plan cells log) ≡ plan

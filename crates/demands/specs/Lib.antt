@@ -3,3 +3,4 @@ pub mod Network
 pub mod Besides
 pub mod Sums
 pub mod Demands
+pub mod Plain

@@ -1,5 +1,6 @@
 // The desk's program: a request from standard input, its answer to standard output; with the argument `all`, the lines of unreached yards too.
 // Rests on console.
+use libc::STDERR_FILENO;
 use libc::STDIN_FILENO;
 use libc::STDOUT_FILENO;
 
@@ -13,5 +14,7 @@ fn main() {
     let given = os::arg(1, &mut argument);
     let mut text = [0u8; 67374];
     let length = console::desk_text(&argument[..given], &bytes[..size], &mut text);
-    io::write_all(STDOUT_FILENO, &text[..length]);
+    if !io::write_all(STDOUT_FILENO, &text[..length]) {
+        io::write_all(STDERR_FILENO, b"desk: the answer was not written whole\n");
+    }
 }

@@ -1,2 +1,4 @@
 pub mod Runs
 pub mod Rules
+pub mod Offered
+pub mod Writing

@@ -20,6 +20,7 @@ use Rattle.plans.specs.Method5 as Method5
 use Rattle.plans.specs.Plan.{Kind, instructionsOf, planOf, wordCountOf, cellsOf, resultsOf, lengthOf, verdictCell}
 use Rattle.plans.proofs.EachKind.{each-kind}
 use Rattle.plans.proofs.Facts as Plans
+use Rattle.graph.proofs.Facts as Graph
 use Rattle.headers.specs.Refusal.{headerRefusal}
 use Rattle.headers.proofs.Facts as Headers
 use Rattle.planner.proofs.Facts as Planner
@@ -50,6 +51,7 @@ unfolding signedOf bitsOf bit wrapAdd both pick perform packed packedSet decodeA
 rules =
     record {
       answers = Answers.facts;
+      graph = Graph.facts;
       machine = Machine.facts;
       plans = Plans.facts;
       headers = Headers.facts;

@@ -4,3 +4,5 @@ pub mod Routed
 pub mod Tabled
 pub mod Compared
 pub mod Rules
+pub mod Offered
+pub mod Writing

@@ -12,6 +12,7 @@ use Rattle.answers.specs.Facts.{byNumber, atPlace}
 use Rattle.machine.specs.Facts as Machine
 use Rattle.plans.specs.Plan.{headerOf, distances, parents, byKind}
 use Rattle.plans.specs.Facts as Plans
+use Rattle.graph.specs.Facts as Graph
 use Rattle.headers.specs.Facts as Headers
 use Rattle.planner.specs.Facts as Planner
 use Rattle.planner.specs.Facts.{smallestPlan}
@@ -42,6 +43,8 @@ requestAnswered request cells log ds ps = outcome request (nines cells log ds ps
 pub record Rules : Type 0 where
   -- "Who caused it": numbers and places
   pub answers : Answers.Facts
+  -- "Yards, lanes and totals"
+  pub graph : Graph.Facts
   -- "Cell words"
   pub machine : Machine.Facts
   -- "Plan of method 1", "Plan of method 2", those of methods 3, 4 and 5, and the limits of "Request words"

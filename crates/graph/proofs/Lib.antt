@@ -21,3 +21,5 @@ pub mod Route
 pub mod Product
 pub mod Reweighed
 pub mod LeastBetween
+pub mod Tight
+pub mod Facts

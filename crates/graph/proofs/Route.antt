@@ -9,8 +9,8 @@ use native.Mathlib.Decide.{decLe}
 use native.Mathlib.Nat.{add-zero, add-suc}
 use lib.IntN.{ℤ, pos, negsuc, natAbs, pos-ne-negsuc, _+ℤ_}
 use lib.ListN.{length, getD}
-use Rattle.graph.specs.Walk.{Edge, Network, Chain, total, Below}
-use Rattle.graph.specs.Shortest.{Leads, there, back, LastEdge, Shortest}
+use Rattle.graph.specs.Walk.{Edge, Network, Chain, total, Least, Below}
+use Rattle.graph.specs.Shortest.{Leads, there, back, LastEdge, Distances, Shortest}
 use Rattle.graph.specs.BellmanFord.{network, numbered}
 use Rattle.graph.specs.Route.{origin, behind, shown, lastFirst, Route, RouteTo}
 use Rattle.graph.proofs.Int.{arithℤ, sum}
@@ -21,7 +21,7 @@ use Rattle.graph.proofs.Marks.{Mark}
 
 -- ---- a walk's last edge
 
-chain-last : (net : Network) (es : List Edge) (e : Edge) (u v : ℕ) → Chain net u (es ++ e ∷ []) v → Chain net u es (e .from) × net e × (e .to ≡ v)
+pub chain-last : (net : Network) (es : List Edge) (e : Edge) (u v : ℕ) → Chain net u (es ++ e ∷ []) v → Chain net u es (e .from) × net e × (e .to ≡ v)
 chain-last net [] e u v c = (sym (c .1), c .0, c .2)
 chain-last net (x ∷ es) e u v c = let r = chain-last net es e (x .to) v (c .2) in ((c .0, c .1, r .0), r .1, r .2)
 
@@ -271,3 +271,20 @@ module _ (edge : ℕ → Edge) (m n s : ℕ) (far : ℤ) (dist dist′ parent pa
 pub one-route : {edge : ℕ → Edge} {m n s z : ℕ} {far : ℤ} {dist parent r r′ : ℕ → ℤ} →
     RouteTo edge m far n s dist parent z r → RouteTo edge m far n s dist parent z r′ → (k : ℕ) → k < n - 1 → r k ≡ r′ k
 one-route p q k l = p .followed k l ∙ sym (q .followed k l)
+
+-- ---- what a route is worth
+
+module _ {edge : ℕ → Edge} {m : ℕ} {far : ℤ} {n s : ℕ} {dist parent : ℕ → ℤ} {z : ℕ} {row : ℕ → ℤ}
+    (r : RouteTo edge m far n s dist parent z row) (near : dist z ≢ far) where
+  -- No walk to z costs less.
+  pub least-route : Distances (network edge m) far n s dist → z < n → Least (network edge m) s z (dist z) (lastFirst edge (r .route near .numbers))
+  least-route d l = record { leads = r .route near .leads; sums = r .route near .sums; least = d .reached z l near .1 .least }
+
+  -- To the source it has no edges.
+  pub home-already : z ≡ s → r .route near .numbers ≡ []
+  home-already e = by (r .route near .numbers) (r .route near .few) (r .route near .shows)
+    where
+      by : (ks : List ℕ) → length ks ≤ n - 1 → ((k : ℕ) → k < length ks → row k ≡ pos (getD ks k 0)) → ks ≡ []
+      by [] few shows = refl
+      by (k ∷ ks) few shows =
+          absurd (pos-ne-negsuc k 0 (sym (shows 0 (omega arith)) ∙ r .nothing (inl e) 0 (omega arith)))

@@ -10,3 +10,4 @@ pub mod Floyd
 pub mod Route
 pub mod Reweighed
 pub mod LeastBetween
+pub mod Facts

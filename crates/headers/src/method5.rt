@@ -31,5 +31,3 @@ pub fn figures(h: Header) -> Figures
         },
     }
 }
-
-// The check or the route is the deeper one.

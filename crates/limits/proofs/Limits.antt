@@ -37,7 +37,7 @@ is-zero x = (eqb→eq x 0, λ e. rw (eq-eqb x 0 e) tt)
 is-below : (x n : ℕ) → T (ltb x n) ↔ (x < n)
 is-below x n = (ltb→lt x n, lt→ltb x n)
 
-at-most : (x y : ℕ) → T (leb x y) ↔ (x ≤ y)
+pub at-most : (x y : ℕ) → T (leb x y) ↔ (x ≤ y)
 at-most x y = (leb→le x y, le→leb x y)
 
 -- ---- what is public
@@ -104,7 +104,7 @@ sizes-agree h a words lent =
     )
 
 -- The tests that come after the header's may rest on it.
-header-agrees : (h : Header) (ts : List (Bool × Refusal)) (ls : List (ℕ × Type 0)) → (Accepted h → Agree plain ts ls)
+pub header-agrees : (h : Header) (ts : List (Bool × Refusal)) (ls : List (ℕ × Type 0)) → (Accepted h → Agree plain ts ls)
     → Agree plain (headerTests h ++ ts) (headerLimits (h .method) (h .vertices) (h .edges) (h .source) ++ ls)
 header-agrees h ts ls after = (
   refl,

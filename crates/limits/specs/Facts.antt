@@ -10,7 +10,7 @@ use Rattle.answers.specs.Facts.{byNumber, atPlace}
 use Rattle.plans.specs.Plan.{headerOf}
 use Rattle.limits.specs.declared.Lengths.{Lengths}
 use Rattle.limits.specs.Refusal.{logLengthOf, requestRefusal}
-use Rattle.limits.specs.Sizes.{asking, sizesTold}
+use Rattle.limits.specs.Sizes.{sizesTold}
 
 -- What a check tells; 0 where it lets a request pass.
 abbrev pub noRefusal : Told
@@ -31,6 +31,10 @@ routed request cells log distances parents route = met (requestRefusal request (
 -- With no places for a route, which are looked at in method 5 alone.
 abbrev pub tried : (request : List ℕ) (cells log distances parents : ℕ) → Told
 tried request cells log distances parents = routed request cells log distances parents 0
+
+-- What a header is told that asks for something: cells, words of the log, and places for distances, for parents and for a route.
+abbrev pub toLend : (values : List ℕ) → Told
+toLend values = record { number = 0; place = none; values = values }
 
 -- Method 1, n = 2, source 0, of one edge; method 2, n = 1: with buffers just long enough.
 abbrev pub edge : (word : ℕ) → Told
@@ -145,11 +149,11 @@ pub record Facts : Type 0 where
       × (logLengthOf (headerOf 0x500020000800001F) ≡ 1072197)
   -- What a caller is told to lend: the most of each method; a second word is not looked at. And no header word, a source that is not below
   -- n, and one that is not 0 in method 4.
-  pub asked : (sizesTold (0x100020000800001F ∷ []) ≡ asking (lengths 488 1060837 32 32 0))
-      × (sizesTold (0x200020000000001F ∷ 0 ∷ []) ≡ asking (lengths 1190 44227 32 32 0))
-      × (sizesTold (0x300020000800001F ∷ []) ≡ asking (lengths 8874 437222 32 32 0))
-      × (sizesTold (0x4000200008000000 ∷ []) ≡ asking (lengths 1510 521372 1024 0 0))
-      × (sizesTold (0x500020000800001F ∷ []) ≡ asking (lengths 552 1072197 32 32 31))
+  pub asked : (sizesTold (0x100020000800001F ∷ []) ≡ toLend (488 ∷ 1060837 ∷ 32 ∷ 32 ∷ 0 ∷ []))
+      × (sizesTold (0x200020000000001F ∷ 0 ∷ []) ≡ toLend (1190 ∷ 44227 ∷ 32 ∷ 32 ∷ 0 ∷ []))
+      × (sizesTold (0x300020000800001F ∷ []) ≡ toLend (8874 ∷ 437222 ∷ 32 ∷ 32 ∷ 0 ∷ []))
+      × (sizesTold (0x4000200008000000 ∷ []) ≡ toLend (1510 ∷ 521372 ∷ 1024 ∷ 0 ∷ 0 ∷ []))
+      × (sizesTold (0x500020000800001F ∷ []) ≡ toLend (552 ∷ 1072197 ∷ 32 ∷ 32 ∷ 31 ∷ []))
       × (sizesTold [] ≡ byNumber 1)
       × (sizesTold (0x1000200008000020 ∷ []) ≡ byNumber 4)
       × (sizesTold (0x4000200008000001 ∷ []) ≡ byNumber 4)
@@ -181,8 +185,15 @@ pub record Facts : Type 0 where
       × (sorted 0x0002000000000000 ≡ atPlace 14 0)
       × (sorted 0x00000000FA0A1F00 ≡ noRefusal)
       × (sorted 0x00000000FA0A1EFF ≡ atPlace 11 0)
+      × (sorted 0x0000000005F5E100 ≡ noRefusal)
       × (sorted 0x0000000005F5E101 ≡ atPlace 11 0)
       × (sorted 0x0202000105F5E101 ≡ atPlace 10 0)
+  -- Method 5's lane words are method 1's.
+  pub routed-edge : (aimed 0x00000000FA0A1F00 0 ≡ noRefusal)
+      × (aimed 0x00000000FA0A1EFF 0 ≡ atPlace 11 0)
+      × (aimed 0x0000000005F5E100 0 ≡ noRefusal)
+      × (aimed 0x0000000005F5E101 0 ≡ atPlace 11 0)
+      × (aimed 0x0000800000000000 0 ≡ atPlace 10 0)
   -- Method 4's lane words are method 1's.
   pub every-edge : (every 0x0101000000000000 ≡ noRefusal)
       × (every 0x0000000100000000 ≡ atPlace 10 0)

@@ -8,7 +8,7 @@ use Prim.Native.Nat.{ℕ}
 use lib.IntN.{pos, negsuc}
 use Rattle.machine.specs.Instruction.{SET, COPY, ADD, LESS, EQUAL, BOTH, MOVEIF, OPEN}
 use Rattle.machine.specs.Word.{encode, decode, admissible}
-use Rattle.machine.specs.Log.{carried, logged, cellsAfter, logOf, replay, withoutPublished}
+use Rattle.machine.specs.Log.{Spares, carried, logged, cellsAfter, logOf, replay, AsTheyStood, withoutPublished}
 use Rattle.machine.specs.Depth.{chargeOf}
 
 -- Which of some words a bank of 3 cells can carry out.
@@ -146,11 +146,20 @@ pub record Facts : Type 0 where
       ≡ 0x7000000000000000 ∷ 0x7000000000000000 ∷ 7 ∷ 0x0000000000000005 ∷ 0x7000000000000000 ∷ 5 ∷ 0x1000000000000000 ∷ [])
   -- "a run carries out its operation words in order, each once": the second word adds what the first left, the third adds it again.
   pub order : cellsAfter (0x2000000000000001 ∷ 0x2000010000000001 ∷ 0x2000000000000001 ∷ []) (pos 1 ∷ pos 2 ∷ []) ≡ pos 8 ∷ pos 5 ∷ []
+  -- Which cells a word does not write: those that are not its d; and OPEN, whose d is 0, writes none.
+  pub spared : Spares 0 0x7000000000100000
+      × Spares 2 0x0000010000000000
+      × (¬ Spares 1 0x0000010000000000)
+      × (¬ Spares 1 0x6000010000000000)
   -- A log "without the published words": one that looks like an OPEN is left out, and the next word stays; the header stays.
   pub without : (withoutPublished [] ≡ [])
       × (withoutPublished (0x7000000000000000 ∷ 0x0000000000000005 ∷ []) ≡ 0x7000000000000000 ∷ 0x0000000000000005 ∷ [])
       × (withoutPublished (0x1000010000000000 ∷ 0x7000000000000000 ∷ 0x7000000000000000 ∷ 0x0000000000000005 ∷ [])
       ≡ 0x1000010000000000 ∷ 0x7000000000000000 ∷ 0x0000000000000005 ∷ [])
+  -- "each OPEN followed by the published cell": of a log that opens cell 0 at 7 and, after ADD, at 14; not with another word, nor with none.
+  pub told : AsTheyStood (0 ∷ 0x7000000000000000 ∷ 7 ∷ 0x2000000000000000 ∷ 0x7000000000000000 ∷ 14 ∷ []) (pos 7 ∷ [])
+      × (¬ AsTheyStood (0 ∷ 0x7000000000000000 ∷ 7 ∷ 0x2000000000000000 ∷ 0x7000000000000000 ∷ 7 ∷ []) (pos 7 ∷ []))
+      × (¬ AsTheyStood (0 ∷ 0x7000000000000000 ∷ []) (pos 7 ∷ []))
   -- "Carrying out a log takes the log and a bank of cells": logs that no run writes are carried out too. "The first word is passed over."
   pub first-word : (replay [] (pos 7 ∷ pos 8 ∷ []) ≡ some (pos 7 ∷ pos 8 ∷ []))
       × (replay (0xF000000000000000 ∷ []) (pos 7 ∷ pos 8 ∷ []) ≡ some (pos 7 ∷ pos 8 ∷ []))

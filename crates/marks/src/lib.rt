@@ -7,7 +7,7 @@ ghost use lib.Dec.{T};
 ghost use lib.ListN.{length, getD, drop};
 ghost use Rattle.machine.specs.Word.{decodeAt, admissibleAt, admissible};
 ghost use Rattle.machine.specs.Log.{Admitted};
-ghost use Rattle.machine.specs.Depth.{depthOf};
+ghost use Rattle.machine.specs.Depth.{rounds, depthOf};
 ghost use Rattle.deepening.specs.Word.{depthBy, NoDeeper};
 ghost use Rattle.marks.specs.Place.{writesTo, depthsAt, putBack, undone, Saved};
 ghost use Rattle.deepening.specs.Worked.{WorkedOut};
@@ -40,8 +40,8 @@ fn depth_at(words: &[u64], cells: &[i64], k: usize, a: u64) -> u64
 }
 
 // The depth of word k; as in the table, there is a cell for each field of an op other than SET.
-fn depth_of(words: &[u64], cells: &[i64], k: usize, w: Parts) -> u64
-    requires { ⌜ (k ≤ length (now words)) × T (admissibleAt (length (now cells)) (w .op) (w .d) (w .a) (w .b)) ⌝ }
+fn depth_of(column: &[u64; 8], words: &[u64], cells: &[i64], k: usize, w: Parts) -> u64
+    requires { ⌜ (now column ≡ rounds) × (k ≤ length (now words)) × T (admissibleAt (length (now cells)) (w .op) (w .d) (w .a) (w .b)) ⌝ }
     ensures { λ r. ⌜ r ≡ depthBy (decodeAt (w .op) (w .d) (w .a) (w .b)) (depthsAt (now (words .entry)) (now (cells .entry)) k) ⌝ }
 {
     if w.op == ops::SET {
@@ -50,16 +50,16 @@ fn depth_of(words: &[u64], cells: &[i64], k: usize, w: Parts) -> u64
     let x = depth_at(words, cells, k, w.a);
     let y = depth_at(words, cells, k, w.b);
     let z = depth_at(words, cells, k, w.d);
-    deepening::depth_from(w.op, x, y, z)
+    deepening::depth_from(column, w.op, x, y, z)
 }
 
 // That depth. The cell that the word writes is saved in the log and takes the mark.
-fn deepen(words: &[u64], cells: &mut [i64], log: &mut [u64], k: usize) -> u64
-    requires { ⌜ (k < length (now words)) × (k < length (now log)) × (length (now words) ≤ 2 ^ 24) × T (admissible (length (now cells)) (getD (now words) k 0)) × NoDeeper (2 ^ 31) (depthsAt (now words) (now cells) k) ⌝ }
+fn deepen(column: &[u64; 8], words: &[u64], cells: &mut [i64], log: &mut [u64], k: usize) -> u64
+    requires { ⌜ (now column ≡ rounds) × (k < length (now words)) × (k < length (now log)) × (length (now words) ≤ 2 ^ 24) × T (admissible (length (now cells)) (getD (now words) k 0)) × NoDeeper (2 ^ 31) (depthsAt (now words) (now cells) k) ⌝ }
     ensures { λ r. ⌜ Saved (now (words .entry)) k (now (cells .entry)) (now (log .entry)) r (now (cells .exit)) (now (log .exit)) ⌝ }
 {
     let w = ops::split(words[k]);
-    let depth = depth_of(words, cells, k, w);
+    let depth = depth_of(column, words, cells, k, w);
     if w.op == ops::OPEN {
         return depth;
     }
@@ -74,10 +74,11 @@ fn deepen_all(words: &[u64], cells: &mut [i64], log: &mut [u64]) -> u64
     requires { ⌜ Admitted (length (now cells)) (now words) × (length (now words) ≤ 2 ^ 24) × (length (now words) ≤ length (now log)) ⌝ }
     ensures { λ r. ⌜ (r ≡ depthOf (now (words .entry))) × (undone (now (words .entry)) (now (log .exit)) (length (now (words .entry))) (now (cells .exit)) ≡ now (cells .entry)) × (drop (length (now (words .entry))) (now (log .exit)) ≡ drop (length (now (words .entry))) (now (log .entry))) ⌝ }
 {
+    let column = deepening::column();
     let mut rounds: u64 = 0;
     let mut k: usize = 0;
     while k < words.len() {
-        rounds = ops::greater(rounds, deepen(words, cells, log, k));
+        rounds = ops::greater(rounds, deepen(&column, words, cells, log, k));
         k += 1;
     }
     rounds

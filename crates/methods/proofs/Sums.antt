@@ -24,3 +24,8 @@ module _ (P Q : ℤ → ℤ → Type 0) (f : (x y : ℤ) → P x y → Q x y) wh
 pub wraps : ¬ Exact (ADD 0 0 1 ∷ []) (pos (2 ^ 63 - 1) ∷ pos 1 ∷ [])
 unfolding Summed wrapAdd signedOf bitsOf
 wraps h = pos-ne-negsuc _ _ (sym (h .0))
+
+-- Each ADD adds what the words before it left: the second of two that double a cell wraps, the first does not.
+pub wraps-later : ¬ Exact (ADD 0 0 0 ∷ ADD 0 0 0 ∷ []) (pos (2 ^ 62 - 1) ∷ [])
+unfolding Summed perform wrapAdd signedOf bitsOf
+wraps-later h = pos-ne-negsuc _ _ (sym (h .1 .0))

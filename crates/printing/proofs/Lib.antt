@@ -4,4 +4,6 @@ pub mod Requests
 pub mod Unrefused
 pub mod Listed
 pub mod Arguments
+pub mod Told
+pub mod Enough
 pub mod Example

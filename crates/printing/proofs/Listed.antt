@@ -3,10 +3,9 @@
 use mathlib.Core.Path.{_≡_}
 use mathlib.Core.Logic.{_⊎_, inl, inr, _≢_}
 use mathlib.Core.Bool.{true, false, true≢false}
-use mathlib.Core.List.{List, [], _∷_}
+use mathlib.Core.List.{List, []}
 use Prim.Native.Nat.{ℕ, _+_, _*_, _<_}
 use borrow.Author.Tests.{eq-eqb, ne-eqb}
-use lib.ListN.{getD}
 use Rattle.lists.proofs.Test.{by-test}
 use Rattle.text.specs.Text.{numbersLine}
 use Rattle.machine.specs.Effect.{eqZ}
@@ -17,7 +16,7 @@ use Rattle.limits.specs.WithinLimits.{headerIn}
 use Rattle.demands.specs.Run.{Lent, Outcome, outcome}
 use Rattle.demands.specs.Demands.{resultOf}
 use Rattle.demands.proofs.Theorems.{demand2}
-use Rattle.printing.specs.Texts.{listedText, rowsText, routeText, textOf}
+use Rattle.printing.specs.Texts.{listedText, rowsText, routeText, firstNumbers, textOf}
 use Rattle.printing.specs.Listings.{rowCount, Reached, lineAt, Listings}
 use Rattle.printing.proofs.Unrefused.{ran, no-cycle}
 
@@ -42,7 +41,7 @@ module _ (request : List ℕ) (lent : Lent) (unrefused : outcome request lent .a
       let h = headerIn request in
       let told = outcome request lent .answer .values in
       record {
-        front = numbersLine (h .method ∷ h .vertices ∷ h .edges ∷ h .source ∷ getD told 0 0 ∷ getD told 2 0 ∷ []);
+        front = numbersLine (firstNumbers h told);
         back = routeText h (outcome request lent .results route);
         long-is = rw (eq-eqb (outcome request lent .answer .number) 0 unrefused);
         listed = listedAt;

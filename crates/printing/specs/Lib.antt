@@ -1,3 +1,4 @@
+pub mod Literals
 pub mod Texts
 pub mod Bytes
 pub mod Desk

@@ -77,12 +77,14 @@ routeWord = 114 ∷ 111 ∷ 117 ∷ 116 ∷ 101 ∷ []
 abbrev pub routeText : Header → (route : List ℤ) → List ℕ
 routeText h rs = byMethod (h .method) [] ([] ∷ [] ∷ [] ∷ [] ∷ (routeWord ++ (stepsText (h .vertices - 1) rs ++ (newline ∷ []))) ∷ [])
 
--- ---- `method yards lanes source rounds verdict`, then the rows and the route. A run tells its rounds, log length and verdict.
+-- ---- `method yards lanes source rounds verdict`, then the rows and the route
+
+-- A run tells its rounds, log length and verdict.
+abbrev pub firstNumbers : Header → (values : List ℕ) → List ℕ
+firstNumbers h values = h .method ∷ h .vertices ∷ h .edges ∷ h .source ∷ getD values 0 0 ∷ getD values 2 0 ∷ []
 
 abbrev pub resultsText : (all : Bool) → Header → (values : List ℕ) (distances parents route : List ℤ) → List ℕ
-resultsText all h values ds ps rs =
-    numbersLine (h .method ∷ h .vertices ∷ h .edges ∷ h .source ∷ getD values 0 0 ∷ getD values 2 0 ∷ [])
-    ++ (rowsText all h ds ps ++ routeText h rs)
+resultsText all h values ds ps rs = numbersLine (firstNumbers h values) ++ (rowsText all h ds ps ++ routeText h rs)
 
 -- ---- `refused number place`, the place where there is one
 

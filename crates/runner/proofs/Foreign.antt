@@ -18,10 +18,10 @@ use Rattle.answers.specs.Told.{refused}
 use Rattle.answers.proofs.Unmet.{need-none, orElse-none}
 use Rattle.machine.specs.Instruction.{All}
 use Rattle.machine.specs.Effect.{cellAt}
-use Rattle.machine.specs.Log.{Admitted, Spares, cellsAfter, logOf, replay, withoutPublished}
+use Rattle.machine.specs.Log.{Admitted, Spares, cellsAfter, logOf, replay, AsTheyStood, withoutPublished}
 use Rattle.machine.specs.Depth.{chargeOf}
 use Rattle.machine.proofs.Carried.{length-after, spared-after}
-use Rattle.machine.proofs.Replayed.{replay-log, words-log}
+use Rattle.machine.proofs.Replayed.{replay-log, words-log, told-log}
 use Rattle.runner.specs.Runner.{badAt, firstBad, operationAt, logSize, runnerRefusal, planOutcome, planRounds, planLength, planLog}
 use Rattle.runner.proofs.Sized.{log-size}
 use Rattle.runner.proofs.Lowest.{admitted-from, fine-before, bad-at}
@@ -90,6 +90,12 @@ module _ (plan : List ℕ) (cells : List ℤ) (log : List ℕ) where
 
     pub words-plan : withoutPublished (planLog plan cells log) ≡ plan
     words-plan = rw written (words-log plan cells)
+
+    pub told-as-stood : AsTheyStood (planLog plan cells log) cells
+    told-as-stood = rw written (told-log plan cells)
+
+    pub length-whole : length (planLog plan cells log) ≡ planLength plan cells log
+    length-whole = ap length written ∙ rw outcome
 
     pub charge-plan : planRounds plan cells log ≡ chargeOf (planLog plan cells log)
     charge-plan = rw (written, outcome)

@@ -17,11 +17,11 @@ use Rattle.marks.proofs.deepen.Tie as tie
 able : (c : tie.After-split) →
     let w = c .split .result in
     T (admissibleAt (length (c .before .before .before .before .args .cells .now)) (w .op) (w .d) (w .a) (w .b))
-able c = admitted-fields (c .split .ensures .0) _ (c .before .before .before .before .pre .3)
+able c = admitted-fields (c .split .ensures .0) _ (c .before .before .before .before .pre .4)
 
 -- Its depth takes 32 bits at most.
 low : (c : tie.After-depth-of) → c .depth-of .result ≤ 2 ^ 31 + 6
-low c = rw (c .depth-of .ensures) (by-most (2 ^ 31) _ (c .before .before .before .before .before .before .pre .4) _)
+low c = rw (c .depth-of .ensures) (by-most (2 ^ 31) _ (c .before .before .before .before .before .before .pre .5) _)
 
 -- An op other than OPEN writes d, which is there.
 there : (c : tie.Else1) →
@@ -42,8 +42,8 @@ returns-2 c =
     let p = r .before .before in
     let s = p .before .before .before .before in
     rw (toZ-ofZ (record { sfits = c .signed .ok }), c .signed .ensures, c .before .join .ensures, b .bits .ensures, kept _ (b .before .bits-arg .given))
-    (other-saved _ _ (p .split .ensures .0) (s .args .cells .now) _ (r .depth-of .ensures) (there e .0) (there e .1) (s .pre .1)
-    (omega (arith, s .pre .0, s .pre .2)) (omega (arith, low r)) (b .before .bits-arg .given))
+    (other-saved _ _ (p .split .ensures .0) (s .args .cells .now) _ (r .depth-of .ensures) (there e .0) (there e .1) (s .pre .2)
+    (omega (arith, s .pre .1, s .pre .3)) (omega (arith, low r)) (b .before .bits-arg .given))
 
 pub deepen-spec : {M : Type 1} → statement M
 deepen-spec =
@@ -52,14 +52,14 @@ deepen-spec =
     (λ c. search needs)
     (λ c. search needs)
     (λ c κs. search needs)
-    (λ c κs. (search needs, able (c .before)))
+    (λ c κs. (search needs, search needs, able (c .before)))
     (λ c. search needs)
     returns
     (λ c. search needs)
     (λ c. there c .1)
     (λ c κs. search needs)
     (λ c. search needs)
-    (λ c. c .before .before .before .before .before .before .before .before .before .before .pre .1)
+    (λ c. c .before .before .before .before .before .before .before .before .before .before .pre .2)
     (λ c κs. let l = low (c .before .before .before .before) in (omega arith, omega arith, omega arith))
     (λ c κs. let l = low (c .before .before .before .before .before) in (omega arith, omega arith, omega (arith, c .join .ensures)))
     (λ c. search needs)

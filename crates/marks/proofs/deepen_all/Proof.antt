@@ -9,17 +9,19 @@ use Rattle.marks.proofs.deepen_all.Statement.{statement}
 use Rattle.marks.proofs.deepen_all.Tie as tie
 
 abbrev Inv-loop : tie.InvT-loop
-Inv-loop words cells₀ log₀ rounds₀ k₀ cells log rounds k = Marking words cells₀ log₀ cells log rounds k
+Inv-loop words cells₀ log₀ column rounds₀ k₀ cells log rounds k = Marking words cells₀ log₀ cells log rounds k
 
 abbrev μ-loop : tie.MeasureT-loop
-μ-loop words cells₀ log₀ rounds₀ k₀ cells log rounds k = length words - k
+μ-loop words cells₀ log₀ column rounds₀ k₀ cells log rounds k = length words - k
 
 deepen-requires : tie.Need-deepen-requires Inv-loop μ-loop
 deepen-requires c κs =
-    let t = c .before .before in
+    let t = c .before .before .before in
     let i = t .before .loop .inv in
-    let s = t .before .before .before .before in
+    let m = t .before .before in
+    let s = m .before .before .before in
     let l = t .loop-test .taken in (
+      m .column .ensures,
       l,
       omega (arith, i .long, s .pre .2),
       s .pre .1,
@@ -30,9 +32,9 @@ deepen-requires c κs =
 loop-again : tie.Need-loop-again Inv-loop μ-loop
 loop-again c =
     let d = c .before .before .before .before in
-    let t = d .before .before .before in
+    let t = d .before .before .before .before in
     rw (c .greater .ensures)
-    (one-more (t .before .loop .inv) (t .loop-test .taken) (d .deepen .kept .1 .0) (d .deepen .kept .1 .1 .0) _ (d .deepen .ensures))
+    (one-more (t .before .loop .inv) (t .loop-test .taken) (d .deepen .kept .1 .1 .0) (d .deepen .kept .1 .1 .1 .0) _ (d .deepen .ensures))
 
 pub deepen-all-spec : {M : Type 1} → statement M
 deepen-all-spec =
@@ -40,6 +42,7 @@ deepen-all-spec =
     (tie.spec
     Inv-loop
     μ-loop
+    (λ c κs. search needs)
     (λ c. none-yet _ _ _)
     deepen-requires
     (λ c κs. search needs)

@@ -15,11 +15,11 @@ use Rattle.charge.proofs.table.deepen.Tie as tie
 able : (c : tie.After-split) →
     let w = c .split .result in
     T (admissibleAt (length (c .before .before .args .table .now)) (w .op) (w .d) (w .a) (w .b))
-able c = admitted-fields (c .split .ensures .0) _ (c .before .before .pre .0)
+able c = admitted-fields (c .split .ensures .0) _ (c .before .before .pre .1)
 
 -- Its depth takes 32 bits at most.
 low : (c : tie.After-depth-of) → c .depth-of .result ≤ 2 ^ 31 + 6
-low c = rw (c .depth-of .ensures) (by-most (2 ^ 31) _ (c .before .before .before .before .pre .1) _)
+low c = rw (c .depth-of .ensures) (by-most (2 ^ 31) _ (c .before .before .before .before .pre .2) _)
 
 -- An op other than OPEN writes d, which is there.
 there : (c : tie.Else1) →
@@ -43,7 +43,7 @@ deepen-spec =
     tie.close
     (tie.spec
     (λ c κs. search needs)
-    (λ c κs. able (c .before))
+    (λ c κs. (search needs, able (c .before)))
     (λ c. search needs)
     returns
     (λ c. omega (arith, low (c .before .before)))

@@ -10,27 +10,28 @@ use Rattle.charge.proofs.table.deepen_all.Statement.{statement}
 use Rattle.charge.proofs.table.deepen_all.Tie as tie
 
 abbrev Inv-loop : tie.InvT-loop
-Inv-loop words table₀ rounds₀ k₀ table rounds k = (length table ≡ length table₀) × Deepening words (depthsIn table) rounds k
+Inv-loop words table₀ column rounds₀ k₀ table rounds k = (length table ≡ length table₀) × Deepening words (depthsIn table) rounds k
 
 abbrev μ-loop : tie.MeasureT-loop
-μ-loop words table₀ rounds₀ k₀ table rounds k = length words - k
+μ-loop words table₀ column rounds₀ k₀ table rounds k = length words - k
 
 loop-holds : tie.Need-loop-holds Inv-loop μ-loop
-loop-holds c = (refl, start _ _ (c .before .before .pre .2))
+loop-holds c = (refl, start _ _ (c .before .before .before .pre .2))
 
 deepen-requires : tie.Need-deepen-requires Inv-loop μ-loop
 deepen-requires c κs =
-    let t = c .before .before in
+    let t = c .before .before .before in
     let i = t .before .loop .inv in
-    let s = t .before .before .before .before in
-    (rw (i .0) (can _ (s .args .words .now) (s .pre .0) _ (t .loop-test .taken)), bounded (i .1) (t .loop-test .taken) (s .pre .1))
+    let m = t .before .before in
+    let s = m .before .before .before in
+    (m .column .ensures, rw (i .0) (can _ (s .args .words .now) (s .pre .0) _ (t .loop-test .taken)), bounded (i .1) (t .loop-test .taken) (s .pre .1))
 
 loop-again : tie.Need-loop-again Inv-loop μ-loop
 loop-again c =
     let d = c .before .before .before in
-    let t = d .before .before .before in
+    let t = d .before .before .before .before in
     let i = t .before .loop .inv in
-    rw (c .greater .ensures) (d .deepen .kept .0 ∙ i .0, next (i .1) (t .loop-test .taken) _ (d .deepen .ensures))
+    rw (c .greater .ensures) (d .deepen .kept .1 .0 ∙ i .0, next (i .1) (t .loop-test .taken) _ (d .deepen .ensures))
 
 pub deepen-all-spec : {M : Type 1} → statement M
 deepen-all-spec =
@@ -38,6 +39,7 @@ deepen-all-spec =
     (tie.spec
     Inv-loop
     μ-loop
+    (λ c κs. search needs)
     loop-holds
     (λ c. omega arith)
     (λ c. omega arith)
