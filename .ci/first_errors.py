@@ -25,9 +25,9 @@ SHAPES = [
     r"/specs/\w+\.antt:\d+:\d+: error: ",
 ]
 
-# What an error shows, the most first: a row of a table of facts, both sides of which are computed, is false; a step on sums and orders does not follow,
-# mostly with numbers at which it is false; a proof that says what it proves proves something else; a search, or a rewriting, finds no proof, which
-# alone does not show that there is none.
+# What an error shows, the most first: a row of a table of facts, which computing decides, is false; a step on sums and orders does not follow, mostly
+# with numbers at which it is false; a proof that says what it proves proves something else; a search, or a rewriting, finds no proof, which alone does
+# not show that there is none.
 KINDS = [
     ("at a row of facts", r"/proofs/(Facts|Runs|Rules|Example|Offered)\.antt:\d+:\d+: error: "),
     ("in arithmetic", r"`omega`: "),

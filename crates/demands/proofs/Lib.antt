@@ -10,4 +10,5 @@ pub mod Beyond
 pub mod Told
 pub mod Refused
 pub mod Theorems
+pub mod Consequences
 pub mod Plain

@@ -12,8 +12,8 @@ use Rattle.plans.specs.Plan.{distances, parents, resultsOf}
 use Rattle.plans.proofs.Headers.{source-below}
 use Rattle.limits.specs.Word.{weightOf}
 use Rattle.limits.specs.WithinLimits.{headerIn, wordsIn, OneOf}
-use Rattle.graph.specs.Walk.{Edge, Chain, total, Below}
-use Rattle.graph.specs.Shortest.{Leads, there, back, Shortest}
+use Rattle.graph.specs.Walk.{Edge, Network, Chain, total, Below}
+use Rattle.graph.specs.Shortest.{Naming, Leads, there, back, Shortest}
 use Rattle.graph.specs.BellmanFord.{network, numbered}
 use Rattle.graph.specs.Dijkstra.{fromVertex}
 use Rattle.graph.specs.Route.{origin, behind, lastFirst, RouteTo}
@@ -28,24 +28,28 @@ use Rattle.demands.specs.Plain.{stepsBack, laneBefore, yardBefore, Lanes
 use Rattle.demands.proofs.Ran.{allowed, leaves}
 use Rattle.demands.proofs.Theorems.{one-source, route-shown}
 
+-- ---- parents followed back
+
 -- One step and k more.
 first : (before : ℕ → ℕ) (v k : ℕ) → stepsBack before v (suc k) ≡ stepsBack before (before v) k
 first before v zero = refl
 first before v (suc k) = ap before (first before v k)
 
+-- Where a mark leads to the vertex that its edge begins at, marks that lead to the source arrive there.
+arrive : {net : Network} {Names : Naming} {s : ℕ} {parent : ℕ → ℤ} (before : ℕ → (mark : ℤ) → ℕ)
+    → ((k : ℕ) (e : Edge) → Names k e → before (e .to) (pos k) ≡ e .from) → {v : ℕ} → Leads net Names s parent v
+    → (k : ℕ) × (stepsBack (λ u. before u (parent u)) v k ≡ s)
+arrive before begins there = (0, refl)
+arrive {parent = parent} before begins (back k e real named marked r) =
+    let q = arrive before begins r in
+    let step : ℕ → ℕ = λ u. before u (parent u) in
+    let begun : step (e .to) ≡ e .from = ap (before (e .to)) marked ∙ begins k e named in
+    (suc (q .0), first step (e .to) (q .0) ∙ ap (λ (u : ℕ). stepsBack step u (q .0)) begun ∙ q .1)
+
 -- ---- lanes
 
 module _ (ws : List ℕ) (n m s : ℕ) (dist parent : ℕ → ℤ) (below : Below (network (edgeOf ws) m) n) (inside : s < n)
     (h : Shortest (network (edgeOf ws) m) (numbered (edgeOf ws) m) far n s dist parent) where
-  lane-home : {v : ℕ} → Leads (network (edgeOf ws) m) (numbered (edgeOf ws) m) s parent v
-      → (k : ℕ) × (stepsBack (λ u. laneBefore ws u (parent u)) v k ≡ s)
-  lane-home there = (0, refl)
-  lane-home (back k e real named marked r) =
-      let q = lane-home r in
-      let before : ℕ → ℕ = λ u. laneBefore ws u (parent u) in
-      let step : before (e .to) ≡ e .from = ap (laneBefore ws (e .to)) marked ∙ ap (λ (x : Edge). x .from) (sym (named .1)) in
-      (suc (q .0), first before (e .to) (q .0) ∙ ap (λ (u : ℕ). stepsBack before u (q .0)) step ∙ q .1)
-
   pub lanes : LanesAddUp ws n m s dist parent
   lanes =
       record {
@@ -59,7 +63,7 @@ module _ (ws : List ℕ) (n m s : ℕ) (dist parent : ℕ → ℤ) (below : Belo
             subst (λ (e : Edge). (e .to ≡ v) × (dist (e .from) ≢ far) × (dist (e .from) +ℤ e .weight ≡ dist v)) (q .named .1)
             (q .ends, q .reached, q .makes) in
             (q .mark, q .named .0, q .marked, t .0, t .1, t .2);
-        home = λ v l near. lane-home (h .parents .leads v l near);
+        home = λ v l near. arrive (laneBefore ws) (λ k e named. ap (λ (x : Edge). x .from) (sym (named .1))) (h .parents .leads v l near);
       }
 
 -- ---- routes
@@ -106,14 +110,6 @@ module _ (ws : List ℕ) (m : ℕ) where
 
 module _ (ws : List ℕ) (n s : ℕ) (dist parent : ℕ → ℤ) (below : Below (Entered n ws) n) (inside : s < n)
     (h : Shortest (Entered n ws) fromVertex far n s dist parent) where
-  yard-home : {v : ℕ} → Leads (Entered n ws) fromVertex s parent v → (k : ℕ) × (stepsBack (λ u. yardBefore u (parent u)) v k ≡ s)
-  yard-home there = (0, refl)
-  yard-home (back k e real named marked r) =
-      let q = yard-home r in
-      let before : ℕ → ℕ = λ u. yardBefore u (parent u) in
-      let step : before (e .to) ≡ e .from = ap (yardBefore (e .to)) marked ∙ sym named in
-      (suc (q .0), first before (e .to) (q .0) ∙ ap (λ (u : ℕ). stepsBack before u (q .0)) step ∙ q .1)
-
   pub tables : TableAddsUp ws n s dist parent
   tables =
       record {
@@ -138,7 +134,7 @@ module _ (ws : List ℕ) (n s : ℕ) (dist parent : ℕ → ℤ) (below : Below 
                   ∙ ap (λ (x : ℤ). dist (q .edge .from) +ℤ x) (sym (q .real .weighs ∙ same))
                   ∙ q .makes,
             );
-        home = λ v l near. yard-home (h .parents .leads v l near);
+        home = λ v l near. arrive yardBefore (λ k e named. sym named) (h .parents .leads v l near);
       }
 
 -- ---- requests

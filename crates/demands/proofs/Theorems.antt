@@ -1,21 +1,17 @@
 -- The theorems: the demands of specs/Demands, for every request, foreign plan and lent buffer.
 -- Rests on everything below.
-use mathlib.Core.Path.{_≡_, refl, sym, ap, ap₂, _∙_}
-use mathlib.Core.Logic.{_↔_, _⊎_, inl, inr, Iff·trans, Iff·symm, Iff·not, _≢_}
-use mathlib.Core.List.{List, [], _∷_, _++_, append-nil}
-use mathlib.Core.Option.{Option, none, some, Option·some-ne-none}
-use Prim.Native.Nat.{ℕ, _+_, _*_, _≤_}
-use native.Mathlib.Decide.{decLe}
+use mathlib.Core.Path.{_≡_, refl, sym, _∙_}
+use mathlib.Core.Logic.{_⊎_, inl, inr, Iff·trans, Iff·symm, Iff·not, _≢_}
+use mathlib.Core.List.{List, [], _∷_}
+use mathlib.Core.Option.{none}
+use Prim.Native.Nat.{ℕ, _+_, _*_}
 use native.Mathlib.Omega.{arith}
 use lib.Arith.{digits-lt}
-use lib.IntN.{ℤ, pos}
+use lib.IntN.{ℤ}
 use lib.ListN.{length, getD}
-use lib.Seq.{ext-getD}
 use Rattle.answers.specs.Refusal.{plain, placed}
-use Rattle.machine.specs.Effect.{cellAt}
-use Rattle.machine.specs.Log.{replay}
 use Rattle.plans.specs.Limits.{far}
-use Rattle.plans.specs.Plan.{planOf, cellsOf, Kind, distances, parents, route, resultsOf, verdictCell}
+use Rattle.plans.specs.Plan.{Kind, distances, parents, route, resultsOf}
 use Rattle.plans.proofs.Headers.{source-below}
 use Rattle.runner.proofs.PlanWithin.{within-plan}
 use Rattle.runner.proofs.Refused.{nine-exactly, seven-exactly, settled-plan}
@@ -27,10 +23,10 @@ use Rattle.limits.specs.Word.{destinationIn}
 use Rattle.graph.specs.Jacobi.{Synchronous}
 use Rattle.graph.specs.Route.{RouteTo}
 use Rattle.graph.proofs.Parents.{distances-carried, parents-carried}
-use Rattle.demands.specs.Run.{Lent, startOf, verdictOf, outcome}
+use Rattle.demands.specs.Run.{Lent, outcome}
 use Rattle.demands.specs.Network.{edgeOf, networkOf, namingOf, sourcesOf}
 use Rattle.demands.specs.Besides.{besidesOf}
-use Rattle.demands.specs.Demands.{RanOn, verdictTold, logTold, resultOf, Demand1, Demand2, OneSource, EverySource, Demand3a, Demand3, DemandPlan}
+use Rattle.demands.specs.Demands.{RanOn, verdictTold, resultOf, Demand1, Demand2, OneSource, EverySource, Demand3a, Demand3, DemandPlan}
 use Rattle.demands.proofs.Intake.{laid-cells, lent-cells}
 use Rattle.demands.proofs.Ran.{allowed, leaves, by-verdict, cells-are, verdict-is, log-published, length-figure, length-whole}
 use Rattle.demands.proofs.Sources.{only-source, first-row, single, every, vertex-at, vertices-long, any-source}
@@ -91,20 +87,6 @@ demand2 request lent =
           (leaves request lent ran .besides (sym (verdict-is request lent ran) ∙ t));
     }
 
--- A method with a cell for the verdict, and one without, whose verdict is 0.
-has-verdict : (o : Option ℕ) → (o ≢ none) ⊎ (o ≡ none)
-has-verdict none = inr refl
-has-verdict (some cell) = inl (Option·some-ne-none cell)
-
-no-verdict : (request : List ℕ) (lent : Lent) → RanOn request lent → verdictCell (headerIn request) ≡ none → verdictTold request lent ≡ 0
-unfolding verdictOf
-no-verdict request lent ran e = verdict-is request lent ran ∙ rw e
-
-same-header : (request request′ : List ℕ) → headerIn request .method ≡ headerIn request′ .method
-    → headerIn request .vertices ≡ headerIn request′ .vertices → headerIn request .edges ≡ headerIn request′ .edges
-    → headerIn request .source ≡ headerIn request′ .source → headerIn request ≡ headerIn request′
-same-header request request′ a b c d = λ i. record { method = a i; vertices = b i; edges = c i; source = d i }
-
 -- In fewer words, where parents are given.
 pub one-source : (request : List ℕ) (lent : Lent) → RanOn request lent → resultsOf (headerIn request) parents .count ≢ 0
     → OneSource request lent
@@ -151,40 +133,6 @@ pub route-shown : (request : List ℕ) (lent : Lent) → RanOn request lent → 
 unfolding besidesOf
 route-shown request lent ran five t = rw five at (demand2 request lent .besides ran t)
 
--- Method 2: "Nothing is opened; the verdict is reported as 0." Its log is the plan.
-pub nothing-opened : (request : List ℕ) (lent : Lent) → RanOn request lent → headerIn request .method ≡ 2
-    → (verdictTold request lent ≡ 0) × (logTold request lent ≡ planOf (headerIn request))
-unfolding verdictCell verdictOf
-nothing-opened request lent ran two = (
-  verdict-is request lent ran ∙ rw two,
-  log-published request lent ran ∙ rw two (append-nil _),
-)
-
--- The logs of two runs are equal exactly when the headers' four numbers and the verdicts are: where a method has none, both are 0.
-pub same-logs-plainly : (request request′ : List ℕ) (lent lent′ : Lent) → RanOn request lent → RanOn request′ lent′
-    → (logTold request lent ≡ logTold request′ lent′)
-    ↔ ((headerIn request .method ≡ headerIn request′ .method) × (headerIn request .vertices ≡ headerIn request′ .vertices)
-    × (headerIn request .edges ≡ headerIn request′ .edges) × (headerIn request .source ≡ headerIn request′ .source)
-    × (verdictTold request lent ≡ verdictTold request′ lent′))
-same-logs-plainly request request′ lent lent′ ran ran′ = (
-  λ e.
-      let s = same-logs request request′ lent lent′ ran ran′ .0 e in (
-        s .method,
-        s .vertices,
-        s .edges,
-        s .source,
-        elim (has-verdict (verdictCell (headerIn request))) [
-          | inl opens ↦ s .verdict opens
-          | inr none-there ↦
-              no-verdict request lent ran none-there
-              ∙ sym (no-verdict request′ lent′ ran′ (sym (ap verdictCell (same-header request request′ (s .method) (s .vertices) (s .edges) (s .source))) ∙ none-there))
-        ],
-      ),
-  λ s.
-      same-logs request request′ lent lent′ ran ran′ .1
-      (record { method = s .0; vertices = s .1; edges = s .2; source = s .3; verdict = λ opens. s .4 }),
-)
-
 -- Demand 3: what the log tells, of two runs and of one.
 pub demand3a : Demand3a
 demand3a = same-logs
@@ -208,35 +156,6 @@ demand3 request lent =
       exact = λ ran. leaves request lent ran .exact;
       bounded = λ ran. leaves request lent ran .bounded;
     }
-
--- "Its starting cells follow from the request and the cells lent": what the needed cells held before has no part in it.
-pub start-follows : (request : List ℕ) (lent lent′ : Lent) → RanOn request lent → RanOn request lent′
-    → length (lent .cells) ≡ length (lent′ .cells)
-    → ((k : ℕ) → cellsOf (headerIn request) ≤ k → cellAt (lent .cells) k ≡ cellAt (lent′ .cells) k)
-    → startOf request lent ≡ startOf request lent′
-start-follows request lent lent′ ran ran′ long rest =
-    let d = demand3 request lent in
-    let d′ = demand3 request lent′ in
-    ext-getD (pos 0) _ _ (d .start-long ran ∙ long ∙ sym (d′ .start-long ran′))
-    (λ k l.
-    elim (decLe (cellsOf (headerIn request)) k) [
-      | yes q ↦ d .lent-cells ran k q ∙ rest k q ∙ sym (d′ .lent-cells ran′ k q)
-      | no q ↦ d .laid-cells ran k (omega arith) ∙ sym (d′ .laid-cells ran′ k (omega arith))
-    ])
-
--- Whatever a run leaves, its log accounts for: with the same log, from the same starting cells, the same cells are left.
-pub log-accounts : (request request′ : List ℕ) (lent lent′ : Lent) → RanOn request lent → RanOn request′ lent′
-    → logTold request lent ≡ logTold request′ lent′ → startOf request lent ≡ startOf request′ lent′
-    → outcome request lent .cells ≡ outcome request′ lent′ .cells
-log-accounts request request′ lent lent′ ran ran′ logs starts =
-    let e : some (outcome request lent .cells) ≡ some (outcome request′ lent′ .cells) =
-    sym (demand3 request lent .carried-out ran) ∙ ap₂ replay logs starts ∙ demand3 request′ lent′ .carried-out ran′ in
-    cc
-
--- A buffer for results that the method does not give stays as it was lent, however long it is.
-pub untouched : (request : List ℕ) (lent : Lent) → RanOn request lent → (k : Kind) → resultsOf (headerIn request) k .count ≡ 0
-    → outcome request lent .results k ≡ lent .results k
-untouched request lent ran k none-given = rw none-given at (demand1 request lent .beyond ran .results k)
 
 -- Foreign plans: demands 1 and 3 of the runner.
 pub demandPlan : (plan : List ℕ) (cells : List ℤ) (log : List ℕ) → DemandPlan plan cells log

@@ -65,10 +65,8 @@ module _ (request : List ℕ) (lent : Lent) where
 
 -- What lies beyond the needed parts is as it was lent.
 pub record Beyond (o : Outcome) (request : List ℕ) (lent : Lent) : Type 0 where
-  pub cells : drop (cellsOf (headerIn request)) (o .cells)
-      ≡ drop (cellsOf (headerIn request)) (lent .cells)
-  pub log : drop (logLengthOf (headerIn request)) (o .log)
-      ≡ drop (logLengthOf (headerIn request)) (lent .log)
+  pub cells : drop (cellsOf (headerIn request)) (o .cells) ≡ drop (cellsOf (headerIn request)) (lent .cells)
+  pub log : drop (logLengthOf (headerIn request)) (o .log) ≡ drop (logLengthOf (headerIn request)) (lent .log)
   pub results : (k : Kind)
       → drop (resultsOf (headerIn request) k .count) (o .results k)
       ≡ drop (resultsOf (headerIn request) k .count) (lent .results k)
@@ -95,13 +93,10 @@ pub record Demand1By (o : Outcome) (request : List ℕ) (lent : Lent) : Type 0 w
       ⊎ ((number : ℕ) × BrokenLast request (lengthsOf lent) number)
   -- A run is told by 0 or, with verdict 1, by 12, with rounds, log length and verdict.
   pub tells : RanOn request lent
-      → (o .answer
-      ≡ record { number = 0; place = none; values = roundsIn o ∷ lengthIn o ∷ 0 ∷ [] })
-      ⊎ (o .answer
-      ≡ record { number = 12; place = none; values = roundsIn o ∷ lengthIn o ∷ 1 ∷ [] })
+      → (o .answer ≡ record { number = 0; place = none; values = roundsIn o ∷ lengthIn o ∷ 0 ∷ [] })
+      ⊎ (o .answer ≡ record { number = 12; place = none; values = roundsIn o ∷ lengthIn o ∷ 1 ∷ [] })
   -- A negative cycle leaves cells and log, and no results.
-  pub no-results : RanOn request lent → verdictIn o ≡ 1
-      → (k : Kind) → o .results k ≡ lent .results k
+  pub no-results : RanOn request lent → verdictIn o ≡ 1 → (k : Kind) → o .results k ≡ lent .results k
   pub beyond : RanOn request lent → Beyond o request lent
 
 -- .. of what the run answers and leaves.
@@ -135,8 +130,7 @@ pub record Demand2By (o : Outcome) (request : List ℕ) (lent : Lent) : Type 0 w
   -- least offer to each vertex, by the lowest edge among equal ones, taken on a strict gain only. In method 5 the route is the parents followed back
   -- from the destination: for a reached one edges that, the last first, lead to it from the source with its distance as total, and then -1; for the
   -- source and an unreached one -1 alone.
-  pub besides : RanOn request lent → verdictIn o ≡ 0
-      → besidesOf (headerIn request) (wordsIn request) (resultIn o)
+  pub besides : RanOn request lent → verdictIn o ≡ 0 → besidesOf (headerIn request) (wordsIn request) (resultIn o)
 
 -- .. of what the run answers and leaves.
 abbrev pub Demand2 : (request : List ℕ) → Lent → Type 0

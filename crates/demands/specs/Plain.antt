@@ -57,8 +57,8 @@ pub record TableAddsUp (words : List ℕ) (n source : ℕ) (dist parent : ℕ �
       × (dist u +ℤ weightOf (getD words (u * n + v) 0) ≡ dist v)
   pub home : (v : ℕ) → v < n → dist v ≢ far → (k : ℕ) × (stepsBack (λ u. yardBefore u (parent u)) v k ≡ source)
 
--- The route of method 5 to z. Lanes, the last first, that lead from the source to z: each ends where the one before it in the list begins; and what they
--- cost together.
+-- The route of method 5 to z. Lanes, the last first, that lead from the source to z: each ends where the one before it in the list begins;
+-- and what they cost together.
 abbrev pub LastFirst : (words : List ℕ) (source z : ℕ) → (lanes : List ℕ) → Type 0
 LastFirst ws source z [] = source ≡ z
 LastFirst ws source z (i ∷ is) = (toField (getD ws i 0) ≡ z) × LastFirst ws source (fromField (getD ws i 0)) is

@@ -1,5 +1,5 @@
--- The eight numbers that each of the five calls answers with (docs/CALLING.md, "The answer"), as facts about literal requests, plans, headers and words.
--- Rests on the definitions alone.
+-- The eight numbers that each of the five calls answers with (docs/CALLING.md, "The answer"), as facts about literal requests, plans, headers and
+-- saved words. Rests on the definitions alone.
 use mathlib.Core.Path.{_≡_}
 use mathlib.Core.List.{List, [], _∷_}
 use Prim.Native.Nat.{ℕ}
@@ -36,7 +36,8 @@ pub record Facts : Type 0 where
   -- "0: done", "rounds", "log length", "verdict": the printed request. "12: a loss circle, after a run": lanes 0 to 1 at 0 and back at -1.
   pub runs : (runNumbers (0x1000020000100000 ∷ 0x00010000FFFFFFFB ∷ []) 17 48 2 ≡ 0 ∷ 0 ∷ 0 ∷ 31 ∷ 48 ∷ 0 ∷ 0 ∷ 0 ∷ [])
       × (runNumbers (0x1000020000200000 ∷ 0x0001000000000000 ∷ 0x01000000FFFFFFFF ∷ []) 20 85 2 ≡ 12 ∷ 0 ∷ 0 ∷ 44 ∷ 85 ∷ 1 ∷ 0 ∷ 0 ∷ [])
-  -- "has place", "place": 11 of the third lane; of the first, whose place is 0; and 8, without one. "With any number but 0 and 12 the last five are 0".
+  -- "has place", "place": 11 of the third lane; of the first, whose place is 0; and 8, without one. "With any number but 0 and 12 the last
+  -- five are 0".
   pub run-refusals : (runNumbers (0x1000020000300000 ∷ 0 ∷ 0 ∷ 0x0000000005F5E101 ∷ []) 23 122 2 ≡ 11 ∷ 1 ∷ 2 ∷ 0 ∷ 0 ∷ 0 ∷ 0 ∷ 0 ∷ [])
       × (runNumbers (0x1000020000300000 ∷ 0x0000000005F5E101 ∷ 0 ∷ 0 ∷ []) 23 122 2 ≡ 11 ∷ 1 ∷ 0 ∷ 0 ∷ 0 ∷ 0 ∷ 0 ∷ 0 ∷ [])
       × (runNumbers (0x1000020000300000 ∷ 0 ∷ 0 ∷ 0 ∷ []) 23 122 1 ≡ 8 ∷ 0 ∷ 0 ∷ 0 ∷ 0 ∷ 0 ∷ 0 ∷ 0 ∷ [])
@@ -48,8 +49,8 @@ pub record Facts : Type 0 where
   pub written : (writtenNumbers (0x1000020000100000 ∷ []) (replicate 50 0) ≡ 0 ∷ 0 ∷ 0 ∷ 47 ∷ 0 ∷ 0 ∷ 0 ∷ 0 ∷ [])
       × (writtenNumbers (0x1000020000100000 ∷ []) (replicate 46 0) ≡ 7 ∷ 0 ∷ 0 ∷ 0 ∷ 0 ∷ 0 ∷ 0 ∷ 0 ∷ [])
       × (writtenNumbers [] (replicate 50 0) ≡ 1 ∷ 0 ∷ 0 ∷ 0 ∷ 0 ∷ 0 ∷ 0 ∷ 0 ∷ [])
-  -- "of `vukstaja_sizes` the cells", "the words of the log", "the places of distances", "places of parents", "n − 1 in method 5": n = 3, m = 2 in method 5,
-  -- and in method 4, with its n² distances and no parents; 4.
+  -- "of `vukstaja_sizes` the cells", "the words of the log", "the places of distances", "places of parents", "n − 1 in method 5": n = 3, m = 2
+  -- in method 5, and in method 4, with its n² distances and no parents; 4.
   pub sizes : (sizesNumbers (0x5000030000200000 ∷ []) ≡ 0 ∷ 0 ∷ 0 ∷ 29 ∷ 212 ∷ 3 ∷ 3 ∷ 2 ∷ [])
       × (sizesNumbers (0x4000030000200000 ∷ []) ≡ 0 ∷ 0 ∷ 0 ∷ 30 ∷ 256 ∷ 9 ∷ 0 ∷ 0 ∷ [])
       × (sizesNumbers (0x5000030000200003 ∷ []) ≡ 4 ∷ 0 ∷ 0 ∷ 0 ∷ 0 ∷ 0 ∷ 0 ∷ 0 ∷ [])

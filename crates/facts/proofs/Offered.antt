@@ -1,10 +1,10 @@
--- The table of specs/Offered: where a demand would have to hold of a wrong outcome, computing the definitions gives two numbers that are not the same,
--- or a walk that costs less. Rests on demands' theorems.
+-- The table of specs/Offered: where a demand would have to hold of a wrong outcome, computing the definitions gives two numbers that are not
+-- the same, or a walk that costs less. Rests on demands' theorems.
 use mathlib.Core.Path.{_≡_, refl, sym, ap, _∙_, subst}
-use mathlib.Core.Logic.{_≢_, inl, inr}
+use mathlib.Core.Logic.{_≢_, _⊎_, inl, inr}
 use mathlib.Core.List.{List, [], _∷_}
 use mathlib.Core.Option.{Option, none, some}
-use Prim.Native.Nat.{ℕ, _+_, _*_, _<_}
+use Prim.Native.Nat.{ℕ, zero, suc, _+_, _*_, _<_}
 use native.Mathlib.Omega.{arith}
 use lib.IntN.{ℤ, pos, negsuc, natAbs, pos-ne-negsuc, _+ℤ_}
 use lib.ListN.{length, getD}
@@ -23,7 +23,7 @@ use Rattle.plans.specs.Method2 as Method2
 use Rattle.plans.specs.Method3 as Method3
 use Rattle.plans.specs.Method4 as Method4
 use Rattle.plans.specs.Method5 as Method5
-use Rattle.plans.specs.Plan.{instructionsOf, planOf, wordCountOf, cellsOf, distances, resultsOf, lengthOf, verdictCell}
+use Rattle.plans.specs.Plan.{instructionsOf, planOf, wordCountOf, cellsOf, distances, parents, resultsOf, lengthOf, verdictCell}
 use Rattle.headers.specs.Refusal.{headerRefusal}
 use Rattle.limits.specs.Word.{fromField, weightOf}
 use Rattle.limits.specs.WithinLimits.{wordsIn}
@@ -36,13 +36,13 @@ use Rattle.graph.proofs.Synchronous.{one-result}
 use Rattle.demands.specs.Run.{verdictOf, outcome}
 use Rattle.demands.specs.Network.{edgeOf, Entered, networkOf, namingOf, sourcesOf}
 use Rattle.demands.specs.Besides.{besidesOf}
-use Rattle.demands.specs.Demands.{RanOn}
-use Rattle.demands.specs.Plain.{LanesAddUp, TableAddsUp}
+use Rattle.demands.specs.Demands.{RanOn, resultIn}
+use Rattle.demands.specs.Plain.{stepsBack, laneBefore, LanesAddUp, TableAddsUp}
 use Rattle.demands.proofs.Sources.{first-row}
 use Rattle.demands.proofs.Ran.{leaves}
 use Rattle.demands.proofs.Theorems.{demand2, synchronous-passes}
 use Rattle.demands.proofs.Plain.{lanes, tables}
-use Rattle.facts.specs.Offered.{printed, forPrinted, more, circle, forCircle, chained, forChained, parallel, forParallel, table, forTable, tied, forTied, everyYard, forEveryYard, circleApart, forCircleApart, routed, toTheSource, forRouted, Offered}
+use Rattle.facts.specs.Offered.{printed, forPrinted, more, circle, forCircle, chained, forChained, parallel, forParallel, level, forLevel, table, forTable, tied, forTied, everyYard, forEveryYard, circleApart, forCircleApart, routed, toTheSource, forRouted, roundAndRound, Offered}
 
 -- ---- the requests ran
 
@@ -52,6 +52,7 @@ record AllRan : Type 0 where
   of-circle : RanOn circle forCircle
   of-chained : RanOn chained forChained
   of-parallel : RanOn parallel forParallel
+  of-level : RanOn level forLevel
   of-table : RanOn table forTable
   of-tied : RanOn tied forTied
   of-everyYard : RanOn everyYard forEveryYard
@@ -68,6 +69,7 @@ ran =
       of-circle = refl;
       of-chained = refl;
       of-parallel = refl;
+      of-level = refl;
       of-table = refl;
       of-tied = refl;
       of-everyYard = refl;
@@ -106,7 +108,8 @@ abbrev lane : (request : List ℕ) (i : ℕ) → Edge
 lane request i = edgeOf (wordsIn request) i
 
 -- The lane, or yard, that a parent names, where sums are plain.
-module _ (ws : List ℕ) (n s : ℕ) (dist parent : ℕ → ℤ) (v : ℕ) (l : v < n) (reached : dist v ≢ far) (ne : v ≢ s) (k : ℕ) (marked : parent v ≡ pos k) where
+module _ (ws : List ℕ) (n s : ℕ) (dist parent : ℕ → ℤ) (v : ℕ) (l : v < n) (reached : dist v ≢ far) (ne : v ≢ s) (k : ℕ)
+    (marked : parent v ≡ pos k) where
   lane-made : (m : ℕ) → LanesAddUp ws n m s dist parent → dist (fromField (getD ws k 0)) +ℤ weightOf (getD ws k 0) ≡ dist v
   lane-made m h =
       let t = h .made v l reached ne in
@@ -116,6 +119,16 @@ module _ (ws : List ℕ) (n s : ℕ) (dist parent : ℕ → ℤ) (v : ℕ) (l : 
   entry-there h =
       let t = h .made v l reached ne in
       subst (λ (u : ℕ). weightOf (getD ws (u * n + v) 0) ≢ negsuc 0) (ap natAbs (sym (t .2) ∙ marked)) (t .3)
+
+-- Steps that lead from 1 to 2 and from 2 to 1 lead from 1 to no other.
+around : (before : ℕ → ℕ) → before 1 ≡ 2 → before 2 ≡ 1 → (k : ℕ) → (stepsBack before 1 k ≡ 1) ⊎ (stepsBack before 1 k ≡ 2)
+around before forth back zero = inl refl
+around before forth back (suc k) =
+    elim (around before forth back k) [ inl e ↦ inr (ap before e ∙ forth) | inr e ↦ inl (ap before e ∙ back) ]
+
+never-home : (before : ℕ → ℕ) → before 1 ≡ 2 → before 2 ≡ 1 → (k : ℕ) → stepsBack before 1 k ≢ 0
+never-home before forth back k home =
+    elim (around before forth back k) [ inl e ↦ omega (arith, sym e ∙ home) | inr e ↦ omega (arith, sym e ∙ home) ]
 
 -- ---- the table
 
@@ -168,6 +181,14 @@ offered =
           tables (wordsIn table) 2 0 _ _ (leaves table forTable (ran .of-table) .below) (omega arith)
           (record { distances = rows; parents = marks }) in
           entry-there (wordsIn table) 2 0 _ _ 1 (omega arith) (near {x = 7} (omega arith)) (λ e. omega (arith, e)) 1 refl plain refl;
+      round-and-round = λ d.
+          let rows = first-row (network (edgeOf (wordsIn level)) 3) far 0 3 _ (d .least-totals (ran .of-level) refl) in
+          let marks = d .parent-marks (ran .of-level) refl (λ e. omega (arith, e)) in
+          let plain =
+          lanes (wordsIn level) 3 3 0 _ _ (leaves level forLevel (ran .of-level) .below) (omega arith)
+          (record { distances = rows; parents = marks }) in
+          let home = plain .home 1 (omega arith) (near {x = 0} (omega arith)) in
+          never-home (λ u. laneBefore (wordsIn level) u (resultIn roundAndRound parents u)) refl refl (home .0) (home .1);
       beyond = (
         λ d. differ {k = 1} {l = 0} (λ e. omega (arith, e)) (ap first (d .beyond (ran .with-more) .results distances)),
         λ d. let e : _≡_ {A = ℕ} 1 0 = ap (λ (xs : List ℕ). getD xs 0 0) (d .beyond (ran .with-more) .log) in omega (arith, e),

@@ -1,5 +1,5 @@
--- Engines that the demands refuse, each by what it would answer and leave for one request: those that the buyer was offered, in his words and order
--- (document 01, "Note from the buyer"), and then one for each further clause that nothing else would miss. Rests on demands.
+-- Engines that the demands refuse, each by what it would answer and leave for one request: those that the buyer was offered, in his words and
+-- order (document 01, "Note from the buyer"), and then some for the clauses that nothing else would miss. Rests on demands.
 use mathlib.Core.List.{List, [], _∷_, _++_}
 use mathlib.Core.Option.{none}
 use Prim.Native.Nat.{ℕ}
@@ -47,6 +47,13 @@ parallel = 0x1000020000200000 ∷ 0x0001000000000004 ∷ 0x0001000000000009 ∷ 
 
 abbrev pub forParallel : Lent
 forParallel = zeros 20 85 2
+
+-- Lanes 0 to 1, 1 to 2 and 2 to 1, all at 0.
+abbrev pub level : List ℕ
+level = 0x1000030000300000 ∷ 0x0001000000000000 ∷ 0x0102000000000000 ∷ 0x0201000000000000 ∷ []
+
+abbrev pub forLevel : Lent
+forLevel = zeros 26 254 3
 
 -- A table with one lane, 0 to 1 at 7.
 abbrev pub table : List ℕ
@@ -156,6 +163,10 @@ dearerLane = giving (pos 0 ∷ pos 4 ∷ []) (negsuc 0 ∷ pos 1 ∷ []) two (ou
 abbrev pub anotherYard : Outcome
 anotherYard = giving (pos 0 ∷ pos 7 ∷ []) (negsuc 0 ∷ pos 1 ∷ []) two (outcome table forTable)
 
+-- Each parent is the last lane of a least walk, and they lead from yard 1 to 2 and back to 1, never to the source.
+abbrev pub roundAndRound : Outcome
+roundAndRound = giving three (negsuc 0 ∷ pos 2 ∷ pos 1 ∷ []) three (outcome level forLevel)
+
 -- The place after the needed ones is written, of the distances, of the log and of the cells.
 abbrev pub beyondDistances : Outcome
 beyondDistances = giving (pos 0 ∷ negsuc 4 ∷ pos 1 ∷ []) (negsuc 0 ∷ pos 0 ∷ pos 0 ∷ []) three (outcome printed more)
@@ -215,9 +226,11 @@ pub record Offered : Type 0 where
   pub beside-the-cells : ¬ Demand3By besideTheCells printed forPrinted
   -- "one whose rounds are invented (they equal the column's sum over the logged words, by demand 3)": with ask 4 their greatest depth.
   pub invented-rounds : ¬ Demand3By inventedRounds printed forPrinted
-  -- "parent marks are last steps of least walks": of two lanes the cheaper; and in a table yards that a lane comes from.
+  -- "parent marks are last steps of least walks and lead back to the source": of two lanes the cheaper; in a table yards that a lane comes from; not
+  -- round and round.
   pub dearer-lane : ¬ Demand2By dearerLane parallel forParallel
   pub another-yard : ¬ Demand2By anotherYard table forTable
+  pub round-and-round : ¬ Demand2By roundAndRound level forLevel
   -- "Cells, log and results beyond the needed part stay untouched"; "a loss circle alone leaves cells and log, and no results".
   pub beyond : (¬ Demand1By beyondDistances printed more) × (¬ Demand1By beyondLog printed more) × (¬ Demand1By beyondCells printed more)
   pub circle-with-results : ¬ Demand1By circleWithResults circle forCircle

@@ -1,5 +1,5 @@
--- Writing a plan in plain propositions (document 01: it "can meet 1 to 4 and 7, and answers its length", and a refusal "changes no lent buffer, in the
--- runner and the plan writer too"), about what the contract of `write_plan` cites. Rests on planner's definitions and on a header's limits.
+-- Writing a plan in plain propositions (document 01: it "can meet 1 to 4 and 7, and answers its length", and a refusal "changes no lent buffer,
+-- in the runner and the plan writer too"), about what the contract of `write_plan` cites. Rests on planner's definitions and on a header's limits.
 use mathlib.Core.Path.{_≡_}
 use mathlib.Core.Logic.{_↔_, _⊎_}
 use mathlib.Core.List.{List, [], _∷_, _++_}

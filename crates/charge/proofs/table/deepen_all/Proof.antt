@@ -24,7 +24,8 @@ deepen-requires c κs =
     let i = t .before .loop .inv in
     let m = t .before .before in
     let s = m .before .before .before in
-    (m .column .ensures, rw (i .0) (can _ (s .args .words .now) (s .pre .0) _ (t .loop-test .taken)), bounded (i .1) (t .loop-test .taken) (s .pre .1))
+    let l = t .loop-test .taken in
+    (m .column .ensures, rw (i .0) (can _ (s .args .words .now) (s .pre .0) _ l), bounded (i .1) l (s .pre .1))
 
 loop-again : tie.Need-loop-again Inv-loop μ-loop
 loop-again c =
