@@ -16,7 +16,7 @@ use Rattle.machine.specs.Log.{Spares, replay, AsTheyStood, withoutPublished}
 use Rattle.machine.specs.Depth.{chargeOf}
 use Rattle.plans.specs.Limits.{far}
 use Rattle.plans.specs.Plan.{cellsOf, instructionsOf, planOf, Kind, distances, parents, resultsOf, verdictCell, published, roundsOfPlan}
-use Rattle.runner.specs.Runner.{logSize, runnerRefusal, planOutcome, planRounds, planLength, planLog}
+use Rattle.runner.specs.Runner.{logSize, runnerRefusal, PlanOutcome, planOutcome}
 use Rattle.runner.specs.PlanWithin.{PlanWithin, NotAllowedAt, LogShort}
 use Rattle.limits.specs.Refusal.{logLengthOf}
 use Rattle.limits.specs.WithinLimits.{headerIn, wordsIn, FirstBroken, publicLimits, WithinLimits, BrokenAt, BrokenLast}
@@ -208,34 +208,48 @@ Demand3 request lent = Demand3By (outcome request lent) request lent
 abbrev pub PlanRanOn : (plan : List ℕ) (cells : List ℤ) (log : List ℕ) → Type 0
 PlanRanOn plan cells log = runnerRefusal plan (length cells) (length log) ≡ none
 
-pub record DemandPlan (plan : List ℕ) (cells : List ℤ) (log : List ℕ) : Type 0 where
+-- What was told of its run, in any outcome: rounds and log length; and the log, that many words from the start of the log buffer.
+module _ (o : PlanOutcome) where
+  abbrev pub planRoundsIn : ℕ
+  planRoundsIn = getD (o .answer .values) 0 0
+
+  abbrev pub planLengthIn : ℕ
+  planLengthIn = getD (o .answer .values) 1 0
+
+  abbrev pub planLogIn : List ℕ
+  planLogIn = take planLengthIn (o .log)
+
+pub record DemandPlanBy (o : PlanOutcome) (plan : List ℕ) (cells : List ℤ) (log : List ℕ) : Type 0 where
   -- Every plan within the limits is run to its end, and no other.
   pub runs : PlanRanOn plan cells log ↔ PlanWithin plan (length cells) (length log)
   -- Every other gets its number and, where there is one, its place, and changes no lent buffer.
   pub refuses : (r : Refusal) → runnerRefusal plan (length cells) (length log) ≡ some r
-      → planOutcome plan cells log ≡ record { answer = refused r; cells = cells; log = log }
+      → o ≡ record { answer = refused r; cells = cells; log = log }
   -- By 9 exactly at its first word that is not allowed, by 7 exactly where every word is allowed and the log is too short; there is nothing else.
   pub refuses-word : (place : ℕ)
-      → (planOutcome plan cells log ≡ record { answer = refused (placed 9 place); cells = cells; log = log })
+      → (o ≡ record { answer = refused (placed 9 place); cells = cells; log = log })
       ↔ NotAllowedAt plan (length cells) place
-  pub refuses-log : (planOutcome plan cells log ≡ record { answer = refused (plain 7); cells = cells; log = log })
+  pub refuses-log : (o ≡ record { answer = refused (plain 7); cells = cells; log = log })
       ↔ LogShort plan (length cells) (length log)
   pub settled : PlanWithin plan (length cells) (length log)
       ⊎ ((place : ℕ) × NotAllowedAt plan (length cells) place)
       ⊎ LogShort plan (length cells) (length log)
   -- A run is told by 0, with rounds and log length: each word, and the published cell after each OPEN.
   pub tells : PlanRanOn plan cells log
-      → planOutcome plan cells log .answer
-      ≡ record { number = 0; place = none; values = planRounds plan cells log ∷ planLength plan cells log ∷ [] }
-  pub length-figure : PlanRanOn plan cells log → planLength plan cells log ≡ logSize plan
+      → o .answer ≡ record { number = 0; place = none; values = planRoundsIn o ∷ planLengthIn o ∷ [] }
+  pub length-figure : PlanRanOn plan cells log → planLengthIn o ≡ logSize plan
   -- What lies beyond the log, and each cell that no word of the plan writes, is as it was lent.
-  pub log-beyond : PlanRanOn plan cells log → drop (logSize plan) (planOutcome plan cells log .log) ≡ drop (logSize plan) log
-  pub cells-long : PlanRanOn plan cells log → length (planOutcome plan cells log .cells) ≡ length cells
+  pub log-beyond : PlanRanOn plan cells log → drop (logSize plan) (o .log) ≡ drop (logSize plan) log
+  pub cells-long : PlanRanOn plan cells log → length (o .cells) ≡ length cells
   pub cells-spared : PlanRanOn plan cells log → (k : ℕ) → All (Spares k) (drop 1 plan)
-      → cellAt (planOutcome plan cells log .cells) k ≡ cellAt cells k
+      → cellAt (o .cells) k ≡ cellAt cells k
   -- The log alone, carried out from the lent cells, leaves what the run left; the rounds are its charge; without its published words it is the plan.
-  pub carried-out : PlanRanOn plan cells log → replay (planLog plan cells log) cells ≡ some (planOutcome plan cells log .cells)
-  pub as-they-stood : PlanRanOn plan cells log → AsTheyStood (planLog plan cells log) cells
-  pub length-whole : PlanRanOn plan cells log → length (planLog plan cells log) ≡ planLength plan cells log
-  pub charged : PlanRanOn plan cells log → planRounds plan cells log ≡ chargeOf (planLog plan cells log)
-  pub planned : PlanRanOn plan cells log → withoutPublished (planLog plan cells log) ≡ plan
+  pub carried-out : PlanRanOn plan cells log → replay (planLogIn o) cells ≡ some (o .cells)
+  pub as-they-stood : PlanRanOn plan cells log → AsTheyStood (planLogIn o) cells
+  pub length-whole : PlanRanOn plan cells log → length (planLogIn o) ≡ planLengthIn o
+  pub charged : PlanRanOn plan cells log → planRoundsIn o ≡ chargeOf (planLogIn o)
+  pub planned : PlanRanOn plan cells log → withoutPublished (planLogIn o) ≡ plan
+
+-- .. of what the runner answers and leaves.
+abbrev pub DemandPlan : (plan : List ℕ) (cells : List ℤ) (log : List ℕ) → Type 0
+DemandPlan plan cells log = DemandPlanBy (planOutcome plan cells log) plan cells log

@@ -13,7 +13,7 @@ use Rattle.fields.specs.Fields.{signedOf, bitsOf}
 use Rattle.answers.specs.Told.{Told}
 use Rattle.machine.specs.Effect.{bit, wrapAdd, both, pick, perform}
 use Rattle.machine.specs.Word.{packed, packedSet, decodeAt, zerosKept, present, admissibleAt}
-use Rattle.machine.specs.Log.{carry, logged, cellsAfter, logFrom, logOf, replayFrom, replay, ToldFrom, withoutPublishedFrom, withoutPublished}
+use Rattle.machine.specs.Log.{carry, logged, cellsAfter, logFrom, logOf, replayFrom, replay, ToldFrom, withoutPublishedFrom, withoutPublished, sumOf}
 use Rattle.machine.specs.Depth.{greatestFrom, decodeAll, depthOf, chargeOf}
 use Rattle.plans.specs.Limits.{far}
 use Rattle.plans.specs.Blocks.{flat}
@@ -25,6 +25,7 @@ use Rattle.plans.specs.Method4 as Method4
 use Rattle.plans.specs.Method5 as Method5
 use Rattle.plans.specs.Plan.{instructionsOf, planOf, wordCountOf, cellsOf, distances, parents, resultsOf, lengthOf, verdictCell}
 use Rattle.headers.specs.Refusal.{headerRefusal}
+use Rattle.runner.specs.Runner.{firstBad, logSize, runnerRefusal, planOutcome}
 use Rattle.limits.specs.Word.{fromField, weightOf}
 use Rattle.limits.specs.WithinLimits.{wordsIn}
 use Rattle.limits.specs.Refusal.{logLengthOf, sizesRefusal, inRange, edgeRefusal, sortedRefusal, entryRefusal, wordRefusal, wordsRefusal, lastRefusal, requestRefusal}
@@ -36,13 +37,13 @@ use Rattle.graph.proofs.Synchronous.{one-result}
 use Rattle.demands.specs.Run.{verdictOf, outcome}
 use Rattle.demands.specs.Network.{edgeOf, Entered, networkOf, namingOf, sourcesOf}
 use Rattle.demands.specs.Besides.{besidesOf}
-use Rattle.demands.specs.Demands.{RanOn, resultIn}
+use Rattle.demands.specs.Demands.{RanOn, resultIn, PlanRanOn}
 use Rattle.demands.specs.Plain.{stepsBack, laneBefore, LanesAddUp, TableAddsUp}
 use Rattle.demands.proofs.Sources.{first-row}
 use Rattle.demands.proofs.Ran.{leaves}
 use Rattle.demands.proofs.Theorems.{demand2, synchronous-passes}
 use Rattle.demands.proofs.Plain.{lanes, tables}
-use Rattle.facts.specs.Offered.{printed, forPrinted, more, circle, forCircle, chained, forChained, parallel, forParallel, level, forLevel, table, forTable, tied, forTied, everyYard, forEveryYard, circleApart, forCircleApart, routed, toTheSource, forRouted, roundAndRound, Offered}
+use Rattle.facts.specs.Offered.{printed, forPrinted, more, circle, forCircle, chained, forChained, parallel, forParallel, level, forLevel, table, forTable, tied, forTied, everyYard, forEveryYard, circleApart, forCircleApart, routed, toTheSource, forRouted, doubling, oneCell, fourWords, roundAndRound, Offered}
 
 -- ---- the requests ran
 
@@ -59,9 +60,10 @@ record AllRan : Type 0 where
   of-circleApart : RanOn circleApart forCircleApart
   of-routed : RanOn routed forRouted
   of-toTheSource : RanOn toTheSource forRouted
+  of-doubling : PlanRanOn doubling oneCell fourWords
 
 ran : AllRan
-unfolding signedOf wordCountOf cellsOf resultsOf lengthOf headerRefusal weightOf logLengthOf verdictCell sizesRefusal inRange edgeRefusal sortedRefusal entryRefusal wordRefusal wordsRefusal lastRefusal requestRefusal
+unfolding signedOf decodeAt zerosKept present admissibleAt sumOf wordCountOf cellsOf resultsOf lengthOf headerRefusal weightOf logLengthOf verdictCell sizesRefusal inRange edgeRefusal sortedRefusal entryRefusal wordRefusal wordsRefusal lastRefusal requestRefusal firstBad logSize runnerRefusal
 ran =
     record {
       of-printed = refl;
@@ -76,6 +78,7 @@ ran =
       of-circleApart = refl;
       of-routed = refl;
       of-toTheSource = refl;
+      of-doubling = refl;
     }
 
 -- ---- tools
@@ -133,7 +136,7 @@ never-home before forth back k home =
 -- ---- the table
 
 pub offered : Offered
-unfolding signedOf bitsOf bit wrapAdd both pick perform packed packedSet decodeAt zerosKept present admissibleAt carry logged cellsAfter logFrom logOf replayFrom replay ToldFrom withoutPublishedFrom withoutPublished greatestFrom decodeAll depthOf chargeOf flat instructions Method1.plan Method2.plan Method3.plan Method4.plan Method5.plan instructionsOf planOf wordCountOf cellsOf resultsOf lengthOf verdictCell headerRefusal weightOf logLengthOf sizesRefusal inRange edgeRefusal sortedRefusal entryRefusal wordRefusal wordsRefusal lastRefusal requestRefusal stripsOf sourceOf laid copied startingCells verdictOf outcome networkOf namingOf sourcesOf besidesOf
+unfolding signedOf bitsOf bit wrapAdd both pick perform packed packedSet decodeAt zerosKept present admissibleAt carry logged cellsAfter logFrom logOf replayFrom replay ToldFrom withoutPublishedFrom withoutPublished greatestFrom decodeAll depthOf chargeOf flat instructions Method1.plan Method2.plan Method3.plan Method4.plan Method5.plan instructionsOf planOf wordCountOf cellsOf resultsOf lengthOf verdictCell headerRefusal weightOf logLengthOf sizesRefusal inRange edgeRefusal sortedRefusal entryRefusal wordRefusal wordsRefusal lastRefusal requestRefusal stripsOf sourceOf laid copied startingCells verdictOf outcome networkOf namingOf sourcesOf besidesOf sumOf firstBad logSize runnerRefusal planOutcome
 offered =
     record {
       copies-the-plan = (
@@ -166,6 +169,13 @@ offered =
       at-intake = λ d. differ {k = 1} {l = 0} (λ e. omega (arith, e)) (ap (cellIn 8) (d .carried-out (ran .of-printed)));
       beside-the-cells = λ d. pos-ne-negsuc 0 4 (sym (d .copied-results (ran .of-printed) refl distances 1 (omega arith)));
       invented-rounds = λ d. let e : _≡_ {A = ℕ} 30 31 = d .charged (ran .of-printed) in omega (arith, e);
+      foreign-right = refl;
+      foreign = (
+        λ d. differ {k = 14} {l = 7} (λ e. omega (arith, e)) (ap (cellIn 0) (d .carried-out (ran .of-doubling))),
+        λ d. let e : _≡_ {A = ℕ} 0 1 = d .charged (ran .of-doubling) in omega (arith, e),
+        λ d. let e : _≡_ {A = ℕ} 7 14 = d .as-they-stood (ran .of-doubling) .0 in omega (arith, e),
+        λ d. omega (arith, ap (λ (t : Told). t .number) (d .tells (ran .of-doubling))),
+      );
       dearer-lane = λ d.
           let rows = first-row (network (edgeOf (wordsIn parallel)) 2) far 0 2 _ (d .least-totals (ran .of-parallel) refl) in
           let marks = d .parent-marks (ran .of-parallel) refl (λ e. omega (arith, e)) in

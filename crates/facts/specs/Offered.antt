@@ -1,18 +1,20 @@
 -- Engines that the demands refuse, each by what it would answer and leave for one request: those that the buyer was offered, in his words and
 -- order (document 01, "Note from the buyer"), and then some for the clauses that nothing else would miss. Rests on demands.
+use mathlib.Core.Path.{_≡_}
 use mathlib.Core.List.{List, [], _∷_, _++_}
 use mathlib.Core.Option.{none}
 use Prim.Native.Nat.{ℕ}
 use lib.IntN.{ℤ, pos, negsuc}
 use lib.ListN.{take, drop, replicate}
 use Rattle.lists.specs.Buffers.{overwritten}
-use Rattle.answers.specs.Refusal.{Method}
-use Rattle.answers.specs.Told.{Told}
+use Rattle.answers.specs.Refusal.{Method, placed}
+use Rattle.answers.specs.Told.{Told, refused}
 use Rattle.machine.specs.Log.{cellsAfter}
 use Rattle.plans.specs.Limits.{far}
 use Rattle.plans.specs.Plan.{headerOf, planOf, byKind}
+use Rattle.runner.specs.Runner.{PlanOutcome, planOutcome}
 use Rattle.demands.specs.Run.{Lent, Outcome, startOf, refusedBy, outcome}
-use Rattle.demands.specs.Demands.{Demand1By, Demand2By, Demand3By}
+use Rattle.demands.specs.Demands.{Demand1By, Demand2By, Demand3By, DemandPlanBy}
 use Rattle.facts.specs.Corners.{zeros, ran}
 
 -- ---- requests, each with buffers of zeros that are just long enough
@@ -154,6 +156,30 @@ besideTheCells = leaving (startOf printed forPrinted) (outcome printed forPrinte
 abbrev pub inventedRounds : Outcome
 inventedRounds = answering (ran 30 48) (outcome printed forPrinted)
 
+-- ---- the runner's
+
+-- A foreign plan that doubles cell 0 and opens it, on one cell at 7 and a log of four words.
+abbrev pub doubling : List ℕ
+doubling = 0 ∷ 0x2000000000000000 ∷ 0x7000000000000000 ∷ []
+
+abbrev pub oneCell : List ℤ
+oneCell = pos 7 ∷ []
+
+abbrev pub fourWords : List ℕ
+fourWords = replicate 4 0
+
+-- What a runner would answer and leave: its rounds, the cell, and the word that it published. `doubled 1 14 14` is right.
+abbrev pub doubled : (rounds cell published : ℕ) → PlanOutcome
+doubled rounds cell published =
+    record {
+      answer = record { number = 0; place = none; values = rounds ∷ 4 ∷ [] };
+      cells = pos cell ∷ [];
+      log = 0 ∷ 0x2000000000000000 ∷ 0x7000000000000000 ∷ published ∷ [];
+    }
+
+abbrev pub refusesThePlan : PlanOutcome
+refusesThePlan = record { answer = refused (placed 9 1); cells = oneCell; log = fourWords }
+
 -- ---- and further ones
 
 -- The parent of yard 1 is the dearer of its two lanes; and in a table yard 1 itself, from which no lane comes.
@@ -226,6 +252,12 @@ pub record Offered : Type 0 where
   pub beside-the-cells : ¬ Demand3By besideTheCells printed forPrinted
   -- "one whose rounds are invented (they equal the column's sum over the logged words, by demand 3)": with ask 4 their greatest depth.
   pub invented-rounds : ¬ Demand3By inventedRounds printed forPrinted
+  -- The same of foreign plans: copies the plan and computes nothing; invented rounds; the cell published as it stood before; refuses everything.
+  pub foreign-right : planOutcome doubling oneCell fourWords ≡ doubled 1 14 14
+  pub foreign : (¬ DemandPlanBy (doubled 1 7 14) doubling oneCell fourWords)
+      × (¬ DemandPlanBy (doubled 0 14 14) doubling oneCell fourWords)
+      × (¬ DemandPlanBy (doubled 1 14 7) doubling oneCell fourWords)
+      × (¬ DemandPlanBy refusesThePlan doubling oneCell fourWords)
   -- "parent marks are last steps of least walks and lead back to the source": of two lanes the cheaper; in a table yards that a lane comes from; not
   -- round and round.
   pub dearer-lane : ¬ Demand2By dearerLane parallel forParallel
