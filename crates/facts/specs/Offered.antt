@@ -19,9 +19,11 @@ use Rattle.facts.specs.Corners.{zeros, ran}
 
 -- ---- requests, each with buffers of zeros that are just long enough
 
+-- A header is written by its method, yards, lanes and source, a lane by its from-yard, to-yard, spare bits and price.
+
 -- The printed request; and with one place more of each buffer.
 abbrev pub printed : List ℕ
-printed = 0x1000020000100000 ∷ 0x00010000FFFFFFFB ∷ []
+printed = 0x1_00002_00001_00000 ∷ 0x00_01_0000_FFFFFFFB ∷ []
 
 abbrev pub forPrinted : Lent
 forPrinted = zeros 17 48 2
@@ -31,65 +33,65 @@ more = zeros 18 49 3
 
 -- A loss circle: of one yard, a lane from 0 to 0 at -1.
 abbrev pub circle : List ℕ
-circle = 0x1000010000100000 ∷ 0x00000000FFFFFFFF ∷ []
+circle = 0x1_00001_00001_00000 ∷ 0x00_00_0000_FFFFFFFF ∷ []
 
 abbrev pub forCircle : Lent
 forCircle = zeros 14 18 1
 
 -- Lanes 1 to 2 at -3 and 0 to 1 at 5: the second pass finds yard 2.
 abbrev pub chained : List ℕ
-chained = 0x1000030000200000 ∷ 0x01020000FFFFFFFD ∷ 0x0001000000000005 ∷ []
+chained = 0x1_00003_00002_00000 ∷ 0x01_02_0000_FFFFFFFD ∷ 0x00_01_0000_00000005 ∷ []
 
 abbrev pub forChained : Lent
 forChained = zeros 23 174 3
 
 -- Two lanes 0 to 1, at 4 and at 9.
 abbrev pub parallel : List ℕ
-parallel = 0x1000020000200000 ∷ 0x0001000000000004 ∷ 0x0001000000000009 ∷ []
+parallel = 0x1_00002_00002_00000 ∷ 0x00_01_0000_00000004 ∷ 0x00_01_0000_00000009 ∷ []
 
 abbrev pub forParallel : Lent
 forParallel = zeros 20 85 2
 
 -- Lanes 0 to 1, 1 to 2 and 2 to 1, all at 0.
 abbrev pub level : List ℕ
-level = 0x1000030000300000 ∷ 0x0001000000000000 ∷ 0x0102000000000000 ∷ 0x0201000000000000 ∷ []
+level = 0x1_00003_00003_00000 ∷ 0x00_01_0000_00000000 ∷ 0x01_02_0000_00000000 ∷ 0x02_01_0000_00000000 ∷ []
 
 abbrev pub forLevel : Lent
 forLevel = zeros 26 254 3
 
 -- A table with one lane, 0 to 1 at 7.
 abbrev pub table : List ℕ
-table = 0x2000020000000000 ∷ 0x00000000FFFFFFFF ∷ 7 ∷ 0x00000000FFFFFFFF ∷ 0x00000000FFFFFFFF ∷ []
+table = 0x2_00002_00000_00000 ∷ 0xFFFFFFFF ∷ 7 ∷ 0xFFFFFFFF ∷ 0xFFFFFFFF ∷ []
 
 abbrev pub forTable : Lent
 forTable = zeros 20 67 2
 
 -- Method 3: two lanes 0 to 1 at 4.
 abbrev pub tied : List ℕ
-tied = 0x3000020000200000 ∷ 0x0001000000000004 ∷ 0x0001000000000004 ∷ []
+tied = 0x3_00002_00002_00000 ∷ 0x00_01_0000_00000004 ∷ 0x00_01_0000_00000004 ∷ []
 
 abbrev pub forTied : Lent
 forTied = zeros 36 86 2
 
 -- Method 4: the printed lane; and a loss circle of yards 1 and 2, which yard 0 does not reach.
 abbrev pub everyYard : List ℕ
-everyYard = 0x4000020000100000 ∷ 0x00010000FFFFFFFB ∷ []
+everyYard = 0x4_00002_00001_00000 ∷ 0x00_01_0000_FFFFFFFB ∷ []
 
 abbrev pub forEveryYard : Lent
 forEveryYard = zeros 19 104 4
 
 abbrev pub circleApart : List ℕ
-circleApart = 0x4000030000200000 ∷ 0x01020000FFFFFFFF ∷ 0x02010000FFFFFFFF ∷ []
+circleApart = 0x4_00003_00002_00000 ∷ 0x01_02_0000_FFFFFFFF ∷ 0x02_01_0000_FFFFFFFF ∷ []
 
 abbrev pub forCircleApart : Lent
 forCircleApart = zeros 30 256 9
 
 -- Method 5: the lanes of `chained`, to yard 2; and to the source.
 abbrev pub routed : List ℕ
-routed = 0x5000030000200000 ∷ 0x01020000FFFFFFFD ∷ 0x0001000000000005 ∷ 2 ∷ []
+routed = 0x5_00003_00002_00000 ∷ 0x01_02_0000_FFFFFFFD ∷ 0x00_01_0000_00000005 ∷ 2 ∷ []
 
 abbrev pub toTheSource : List ℕ
-toTheSource = 0x5000030000200000 ∷ 0x01020000FFFFFFFD ∷ 0x0001000000000005 ∷ 0 ∷ []
+toTheSource = 0x5_00003_00002_00000 ∷ 0x01_02_0000_FFFFFFFD ∷ 0x00_01_0000_00000005 ∷ 0 ∷ []
 
 abbrev pub forRouted : Lent
 forRouted = zeros 29 212 3
@@ -116,14 +118,14 @@ three = replicate 3 (pos 0)
 
 -- ---- the buyer's seven
 
--- Its log is right; its cells are those that it was given, and so are its results.
+-- Its log is right; its cells are those that it started from, and its results copies of them.
 abbrev pub copiesThePlan : Outcome
 copiesThePlan = leaving (startOf printed forPrinted) (giving two two two (outcome printed forPrinted))
 
 -- Of the plan's words it carries out the 11 of the opening and the 56 of the first pass.
 abbrev pub firstPassOnly : Outcome
 firstPassOnly =
-    leaving (cellsAfter (take 67 (drop 1 (planOf (headerOf 0x1000030000200000)))) (startOf chained forChained))
+    leaving (cellsAfter (take 67 (drop 1 (planOf (headerOf 0x1_00003_00002_00000)))) (startOf chained forChained))
     (giving (pos 0 ∷ pos 5 ∷ far ∷ []) (negsuc 0 ∷ pos 1 ∷ negsuc 0 ∷ []) three (outcome chained forChained))
 
 -- It logs the header and tells a loss circle: where there is none, and where there is one.
@@ -160,7 +162,7 @@ inventedRounds = answering (ran 30 48) (outcome printed forPrinted)
 
 -- A foreign plan that doubles cell 0 and opens it, on one cell at 7 and a log of four words.
 abbrev pub doubling : List ℕ
-doubling = 0 ∷ 0x2000000000000000 ∷ 0x7000000000000000 ∷ []
+doubling = 0 ∷ 0x2_00000_00000_00000 ∷ 0x7_00000_00000_00000 ∷ []
 
 abbrev pub oneCell : List ℤ
 oneCell = pos 7 ∷ []
@@ -174,7 +176,7 @@ doubled rounds cell published =
     record {
       answer = record { number = 0; place = none; values = rounds ∷ 4 ∷ [] };
       cells = pos cell ∷ [];
-      log = 0 ∷ 0x2000000000000000 ∷ 0x7000000000000000 ∷ published ∷ [];
+      log = 0 ∷ 0x2_00000_00000_00000 ∷ 0x7_00000_00000_00000 ∷ published ∷ [];
     }
 
 abbrev pub refusesThePlan : PlanOutcome
@@ -241,8 +243,8 @@ pub record Offered : Type 0 where
   -- "one that relaxes in the first pass and only logs the later ones (the same two)"
   pub first-pass-only : (¬ Demand2By firstPassOnly chained forChained) × (¬ Demand3By firstPassOnly chained forChained)
   -- "one that reports a loss circle before its first word (demand 2's verdict, and the plan of the header, in demand 3)"
-  pub before-its-first-word : (¬ Demand2By (beforeItsFirstWord 0x1000020000100000 forPrinted) printed forPrinted)
-      × (¬ Demand3By (beforeItsFirstWord 0x1000010000100000 forCircle) circle forCircle)
+  pub before-its-first-word : (¬ Demand2By (beforeItsFirstWord 0x1_00002_00001_00000 forPrinted) printed forPrinted)
+      × (¬ Demand3By (beforeItsFirstWord 0x1_00001_00001_00000 forCircle) circle forCircle)
   -- "one with fixed distances (demand 2)"; and the rule on results.
   pub fixed-distances : (¬ Demand2By fixedDistances printed forPrinted) × (¬ Demand3By fixedDistances printed forPrinted)
   -- "one refusing everything (demand 1)"
@@ -258,8 +260,8 @@ pub record Offered : Type 0 where
       × (¬ DemandPlanBy (doubled 0 14 14) doubling oneCell fourWords)
       × (¬ DemandPlanBy (doubled 1 14 7) doubling oneCell fourWords)
       × (¬ DemandPlanBy refusesThePlan doubling oneCell fourWords)
-  -- "parent marks are last steps of least walks and lead back to the source": of two lanes the cheaper; in a table yards that a lane comes from; not
-  -- round and round.
+  -- "parent marks are last steps of least walks and lead back to the source": of two lanes the cheaper; in a table yards that a lane comes from;
+  -- not round and round.
   pub dearer-lane : ¬ Demand2By dearerLane parallel forParallel
   pub another-yard : ¬ Demand2By anotherYard table forTable
   pub round-and-round : ¬ Demand2By roundAndRound level forLevel
@@ -269,8 +271,8 @@ pub record Offered : Type 0 where
   -- "stopping when a pass changes nothing": the log is then not the plan; and "each OPEN followed by the published cell".
   pub stops-early : ¬ Demand3By stopsEarly printed forPrinted
   pub publishes-another : ¬ Demand3By publishesAnother printed forPrinted
-  -- Ask 3: "among equal offers the lowest lane number becomes parent". Ask 8: "distances by rows", "reached from yard 0 or not". Ask 5: "last first",
-  -- "the source itself, gives padding only".
+  -- Ask 3: "among equal offers the lowest lane number becomes parent". Ask 8: "distances by rows", "reached from yard 0 or not". Ask 5: "last
+  -- first", "the source itself, gives padding only".
   pub later-lane : ¬ Demand2By laterLane tied forTied
   pub by-columns : ¬ Demand2By byColumns everyYard forEveryYard
   pub circle-passed-over : ¬ Demand2By circlePassedOver circleApart forCircleApart
