@@ -21,7 +21,7 @@ fn read_depth(op: u64, x: u64, y: u64, z: u64) -> u64
 // The column "rounds" of the rules, by op.
 const ROUNDS: [u64; 8] = [1, 0, 0, 6, 6, 1, 1, 1];
 
-// It is made once and lent: a table that is indexed in a loop would be made anew in every turn.
+// It is made once for a plan and lent, which is faster than to index the constant for every word (docs/PERFORMANCE.md).
 pub fn column() -> [u64; 8]
     ensures { λ r. ⌜ r ≡ rounds ⌝ }
 {

@@ -2,16 +2,19 @@
 -- those could be emptied unseen. Rests on the theorems.
 use mathlib.Core.Path.{_≡_, refl, sym, ap, ap₂, _∙_}
 use mathlib.Core.Logic.{_↔_, _⊎_, inl, inr, _≢_}
+use mathlib.Core.Bool.{false}
 use mathlib.Core.List.{List, [], _++_, append-nil}
 use mathlib.Core.Option.{Option, none, some, Option·some-ne-none}
 use Prim.Native.Nat.{ℕ, _≤_}
 use native.Mathlib.Decide.{decLe}
 use native.Mathlib.Omega.{arith}
 use lib.IntN.{pos}
-use lib.ListN.{length}
+use lib.ListN.{length, drop}
 use lib.Seq.{ext-getD}
+use Rattle.machine.specs.Instruction.{All}
 use Rattle.machine.specs.Effect.{cellAt}
-use Rattle.machine.specs.Log.{replay}
+use Rattle.machine.specs.Log.{opens, replay}
+use Rattle.machine.proofs.Replayed.{unopened}
 use Rattle.plans.specs.Plan.{planOf, cellsOf, Kind, resultsOf, verdictCell}
 use Rattle.limits.specs.WithinLimits.{headerIn}
 use Rattle.demands.specs.Run.{Lent, startOf, verdictOf, outcome}
@@ -30,14 +33,18 @@ no-verdict : (request : List ℕ) (lent : Lent) → RanOn request lent → verdi
 unfolding verdictOf
 no-verdict request lent ran e = verdict-is request lent ran ∙ rw e
 
--- Method 2: "Nothing is opened; the verdict is reported as 0." Its log is the plan.
+-- Method 2: "Nothing is opened; the verdict is reported as 0." Its log is the plan, of which no word is an OPEN.
 pub nothing-opened : (request : List ℕ) (lent : Lent) → RanOn request lent → headerIn request .method ≡ 2
     → (verdictTold request lent ≡ 0) × (logTold request lent ≡ planOf (headerIn request))
+    × All (λ w. opens w ≡ false) (drop 1 (planOf (headerIn request)))
 unfolding verdictCell verdictOf
-nothing-opened request lent ran two = (
-  no-verdict request lent ran (rw two),
-  demand3 request lent .verdict-last ran ∙ rw two (append-nil _),
-)
+nothing-opened request lent ran two =
+    let d = demand3 request lent in
+    let same : logTold request lent ≡ planOf (headerIn request) = d .verdict-last ran ∙ rw two (append-nil _) in (
+      no-verdict request lent ran (rw two),
+      same,
+      unopened (planOf (headerIn request)) (startOf request lent) (rw same at (d .as-they-stood ran)) (rw same at (d .planned ran)),
+    )
 
 same-header : (request request′ : List ℕ) → headerIn request .method ≡ headerIn request′ .method
     → headerIn request .vertices ≡ headerIn request′ .vertices → headerIn request .edges ≡ headerIn request′ .edges

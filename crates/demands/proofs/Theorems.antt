@@ -15,7 +15,8 @@ use Rattle.plans.specs.Plan.{Kind, distances, parents, route, resultsOf}
 use Rattle.plans.proofs.Headers.{source-below}
 use Rattle.runner.proofs.PlanWithin.{within-plan}
 use Rattle.runner.proofs.Refused.{nine-exactly, seven-exactly, settled-plan}
-use Rattle.runner.proofs.Foreign.{refused-plan, told-plan, told-as-stood, length-whole as length-whole-plan, length-told, log-beyond, cells-long, cells-spared, replayed-plan, charge-plan, words-plan}
+use Rattle.runner.proofs.Foreign.{refused-plan, told-plan, told-as-stood, length-whole as length-whole-plan, length-told, log-beyond, cells-long}
+use Rattle.runner.proofs.Foreign.{cells-spared, replayed-plan, charge-plan, words-plan}
 use Rattle.limits.specs.WithinLimits.{headerIn, wordsIn}
 use Rattle.limits.proofs.WithinLimits.{within}
 use Rattle.limits.proofs.Refused.{plain-refused, word-refused, settled}

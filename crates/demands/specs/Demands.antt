@@ -16,7 +16,7 @@ use Rattle.machine.specs.Log.{Spares, replay, AsTheyStood, withoutPublished}
 use Rattle.machine.specs.Depth.{chargeOf}
 use Rattle.plans.specs.Limits.{far}
 use Rattle.plans.specs.Plan.{cellsOf, instructionsOf, planOf, Kind, distances, parents, resultsOf, verdictCell, published, roundsOfPlan}
-use Rattle.runner.specs.Runner.{logSize, runnerRefusal, PlanOutcome, planOutcome}
+use Rattle.runner.specs.Runner.{logSize, runnerRefusal, PlanOutcome, planOutcome, planRoundsIn, planLengthIn, planLogIn}
 use Rattle.runner.specs.PlanWithin.{PlanWithin, NotAllowedAt, LogShort}
 use Rattle.limits.specs.Refusal.{logLengthOf}
 use Rattle.limits.specs.WithinLimits.{headerIn, wordsIn, FirstBroken, publicLimits, WithinLimits, BrokenAt, BrokenLast}
@@ -207,17 +207,6 @@ Demand3 request lent = Demand3By (outcome request lent) request lent
 -- A foreign plan ran when the runner met no refusal.
 abbrev pub PlanRanOn : (plan : List ℕ) (cells : List ℤ) (log : List ℕ) → Type 0
 PlanRanOn plan cells log = runnerRefusal plan (length cells) (length log) ≡ none
-
--- What was told of its run, in any outcome: rounds and log length; and the log, that many words from the start of the log buffer.
-module _ (o : PlanOutcome) where
-  abbrev pub planRoundsIn : ℕ
-  planRoundsIn = getD (o .answer .values) 0 0
-
-  abbrev pub planLengthIn : ℕ
-  planLengthIn = getD (o .answer .values) 1 0
-
-  abbrev pub planLogIn : List ℕ
-  planLogIn = take planLengthIn (o .log)
 
 pub record DemandPlanBy (o : PlanOutcome) (plan : List ℕ) (cells : List ℤ) (log : List ℕ) : Type 0 where
   -- Every plan within the limits is run to its end, and no other.

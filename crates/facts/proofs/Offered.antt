@@ -28,7 +28,8 @@ use Rattle.headers.specs.Refusal.{headerRefusal}
 use Rattle.runner.specs.Runner.{firstBad, logSize, runnerRefusal, planOutcome}
 use Rattle.limits.specs.Word.{fromField, weightOf}
 use Rattle.limits.specs.WithinLimits.{wordsIn}
-use Rattle.limits.specs.Refusal.{logLengthOf, sizesRefusal, inRange, edgeRefusal, sortedRefusal, entryRefusal, wordRefusal, wordsRefusal, lastRefusal, requestRefusal}
+use Rattle.limits.specs.Refusal.{logLengthOf, sizesRefusal, inRange, edgeRefusal, sortedRefusal, entryRefusal, wordRefusal, wordsRefusal, lastRefusal}
+use Rattle.limits.specs.Refusal.{requestRefusal}
 use Rattle.intake.specs.Intake.{stripsOf, sourceOf, laid, copied, startingCells}
 use Rattle.graph.specs.Walk.{Edge, Network, Chain, total}
 use Rattle.graph.specs.Shortest.{Distances}
@@ -43,7 +44,9 @@ use Rattle.demands.proofs.Sources.{first-row}
 use Rattle.demands.proofs.Ran.{leaves}
 use Rattle.demands.proofs.Theorems.{demand2, synchronous-passes}
 use Rattle.demands.proofs.Plain.{lanes, tables}
-use Rattle.facts.specs.Offered.{printed, forPrinted, more, circle, forCircle, chained, forChained, parallel, forParallel, level, forLevel, table, forTable, tied, forTied, everyYard, forEveryYard, circleApart, forCircleApart, routed, toTheSource, forRouted, doubling, oneCell, fourWords, roundAndRound, Offered}
+use Rattle.facts.specs.Offered.{printed, forPrinted, more, circle, forCircle, chained, forChained, parallel, forParallel, level, forLevel}
+use Rattle.facts.specs.Offered.{table, forTable, tied, forTied, everyYard, forEveryYard, circleApart, forCircleApart, routed, toTheSource}
+use Rattle.facts.specs.Offered.{forRouted, doubling, oneCell, fourWords, roundAndRound, Offered}
 
 -- ---- the requests ran
 

@@ -145,7 +145,8 @@ fixedDistances = giving (pos 0 ∷ pos 4 ∷ []) (negsuc 0 ∷ pos 0 ∷ []) two
 abbrev pub refusesEverything : Outcome
 refusesEverything = refusedBy Method forPrinted
 
--- Its results are right, and copies of cells D and P, which intake has filled with them; no other cell changes.
+-- Its results are right, and copies of cells D and P, which intake has filled with them; no other cell changes. What a run started from is
+-- not seen in an outcome: that its log leaves other cells is.
 abbrev pub atIntake : Outcome
 atIntake =
     leaving (pos 0 ∷ pos 1 ∷ negsuc 4 ∷ pos 0 ∷ negsuc 4 ∷ negsuc 0 ∷ pos 0 ∷ replicate 10 (pos 0)) (outcome printed forPrinted)

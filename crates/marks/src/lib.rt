@@ -55,7 +55,8 @@ fn depth_of(column: &[u64; 8], words: &[u64], cells: &[i64], k: usize, w: Parts)
 
 // That depth. The cell that the word writes is saved in the log and takes the mark.
 fn deepen(column: &[u64; 8], words: &[u64], cells: &mut [i64], log: &mut [u64], k: usize) -> u64
-    requires { ⌜ (now column ≡ rounds) × (k < length (now words)) × (k < length (now log)) × (length (now words) ≤ 2 ^ 24) × T (admissible (length (now cells)) (getD (now words) k 0)) × NoDeeper (2 ^ 31) (depthsAt (now words) (now cells) k) ⌝ }
+    requires { ⌜ (now column ≡ rounds) × (k < length (now words)) × (k < length (now log)) × (length (now words) ≤ 2 ^ 24)
+        × T (admissible (length (now cells)) (getD (now words) k 0)) × NoDeeper (2 ^ 31) (depthsAt (now words) (now cells) k) ⌝ }
     ensures { λ r. ⌜ Saved (now (words .entry)) k (now (cells .entry)) (now (log .entry)) r (now (cells .exit)) (now (log .exit)) ⌝ }
 {
     let w = ops::split(words[k]);

@@ -80,16 +80,27 @@ planOutcomeBy (some r) plan cells log = record { answer = refused r; cells = cel
 unfoldable pub planOutcome : (plan : List ℕ) (cells : List ℤ) (log : List ℕ) → PlanOutcome
 planOutcome plan cells log = planOutcomeBy (runnerRefusal plan (length cells) (length log)) plan cells log
 
--- What was told of a run: its rounds and its log's length; and the log, that many words from the start of the log buffer.
+-- What was told of a run: its rounds and its log's length; and the log, that many words from the start of the log buffer. Of any outcome, and of
+-- the run's.
+module _ (o : PlanOutcome) where
+  abbrev pub planRoundsIn : ℕ
+  planRoundsIn = getD (o .answer .values) 0 0
+
+  abbrev pub planLengthIn : ℕ
+  planLengthIn = getD (o .answer .values) 1 0
+
+  abbrev pub planLogIn : List ℕ
+  planLogIn = take planLengthIn (o .log)
+
 module _ (plan : List ℕ) (cells : List ℤ) (log : List ℕ) where
   abbrev pub planRounds : ℕ
-  planRounds = getD (planOutcome plan cells log .answer .values) 0 0
+  planRounds = planRoundsIn (planOutcome plan cells log)
 
   abbrev pub planLength : ℕ
-  planLength = getD (planOutcome plan cells log .answer .values) 1 0
+  planLength = planLengthIn (planOutcome plan cells log)
 
   abbrev pub planLog : List ℕ
-  planLog = take planLength (planOutcome plan cells log .log)
+  planLog = planLogIn (planOutcome plan cells log)
 
 -- The answer and both buffers are the outcome's.
 pub record MetPlan (o : PlanOutcome) (answer : PlanAnswer) (cells : List ℤ) (log : List ℕ) : Type 0 where
