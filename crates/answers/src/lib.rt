@@ -1,25 +1,27 @@
 // Answers in document 01's terms: the refusals, each by its number and place, and what a check found.
 // Rests on nothing.
+#![tactic(auto)]
+
 ghost use Rattle.std.specs.Prelude.{◌≡◌};
 ghost use Rattle.answers.specs.Refusal.{placed, place_of, place_shown};
 
 // Why a request, a plan or a buffer is refused (document 01, "Who caused it"): its number and, where there is one, its place. 12 comes with a
 // run's own answer, so it is not among those below.
-#[derive(Drop)]
+#[derive(Clone, Copy)]
 pub struct Refusal {
     pub number: u64,
     pub placed: bool,
     pub place: usize,
 }
 
-#[derive(Drop)]
+#[derive(Clone, Copy)]
 pub enum Checked {
     Accepted,
     Refused(Refusal),
 }
 
 // The place of a refusal, where there is one.
-#[derive(Drop)]
+#[derive(Clone, Copy)]
 pub enum Place {
     At(usize),
     Nowhere,

@@ -1,6 +1,8 @@
 // The charge of operation words: their greatest depth (document 02, ask 4). The cells' depths are in a local table where the words keep to the
 // cells of one and are worth clearing it, else in the lent cells, whose numbers wait in the lent log and are put back.
 // Rests on marks, deepening and ops.
+#![tactic(auto)]
+
 mod table;
 
 ghost use Rattle.std.specs.Prelude.{◌≡◌, ◌^◌, ◌≤◌, length};

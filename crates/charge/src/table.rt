@@ -26,7 +26,8 @@ fn depth_of(column: &[u64; 8], table: &[u32], w: Parts) -> u64
     requires { (column.now ≡ rounds) × T (admissible_at (length table.now) w.op w.d w.a w.b) }
     ensures { result ≡ depth_by (decode_at w.op w.d w.a w.b) (depths_in table.now) }
 {
-    if w.op == ops::SET {
+    let constant = w.op == ops::SET;
+    if constant {
         return 1;
     }
     let x = depth_at(table, w.a);

@@ -20,7 +20,7 @@ use Rattle.graph.proofs.LeastBetween.{same_least}
 use Rattle.demands.specs.Network.{edge_of, network_of, network_in}
 use Rattle.comparisons.specs.Repriced.{EntryRepriced}
 use Rattle.comparisons.specs.Totals.{LeastPrice, SamePrices}
-use Rattle.comparisons.specs.Facts.{lanes, table, fee, Facts}
+use Rattle.comparisons.specs.Facts.{lanes, lane, routed, table, fee, Facts}
 use Rattle.comparisons.proofs.Repriced.{entry_hundredfold}
 
 -- ---- what holds of each number below n
@@ -122,8 +122,8 @@ agreed : (net net' : Network) → Sevens net → Sevens net' → SameLeast 2 net
 agreed net net' p q =
     pairs (λ u v. u ≢ v → (w : Option ℤ) → LeastBetween net u v w ↔ LeastBetween net' u v w)
     (λ ne. absurd (ne refl))
-    (λ ne. same_least _ _ 0 1 (some (pos 7)) p.0 q.0)
-    (λ ne. same_least _ _ 1 0 none p.1 q.1)
+    (λ ne. same_least net net' 0 1 (some (pos 7)) p.0 q.0)
+    (λ ne. same_least net net' 1 0 none p.1 q.1)
     (λ ne. absurd (ne refl))
 
 -- What the least price of a table would have to be.
@@ -144,10 +144,10 @@ facts =
       ends = λ p. omega (arith, (p.words 0 (omega arith)).begins);
       least = least;
       entry = entry;
-      agree_2 = record { vertices = refl; least = agreed _ _ least entry };
-      agree_3 = record { vertices = refl; least = agreed _ _ least (one_lane []) };
-      agree_4 = record { vertices = refl; least = agreed _ _ (one_lane []) (one_lane []) };
-      agree_5 = record { vertices = refl; least = agreed _ _ (one_lane []) (one_lane (0 ∷ [])) };
+      agree_2 = record { vertices = refl; least = agreed (network_in lanes) (network_in (table 7)) least entry };
+      agree_3 = record { vertices = refl; least = agreed (network_in lanes) (network_in (lane 0x3000020000100000 7)) least (one_lane []) };
+      agree_4 = record { vertices = refl; least = agreed (network_in (lane 0x1000020000100001 7)) (network_in (lane 0x4000020000100000 7)) (one_lane []) (one_lane []) };
+      agree_5 = record { vertices = refl; least = agreed (network_in (lane 0x4000020000100000 7)) (network_in (routed 7 0)) (one_lane []) (one_lane (0 ∷ [])) };
       greater = λ p. omega (arith, ap nat_abs (would_be 9 p).0.weighs);
       missing = λ p. (would_be 0x00000000FFFFFFFF p).0.entered refl;
       fees_1 = record {

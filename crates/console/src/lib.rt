@@ -1,5 +1,10 @@
-// The desk's program and `host_log` but for reading and writing: from an argument and a request's bytes to the text of its answer, or of its log.
+// The desk's program and `host_log` but for what they read from and write to: from an argument and a request's bytes to the text of its answer, or of
+// its log.
 // Rests on input, engine, printing and replies.
+#![tactic(auto)]
+
+mod reading;
+
 ghost use Rattle.std.specs.Prelude.{◌≡◌};
 ghost use Rattle.limits.specs.WithinLimits.{header_in};
 ghost use Rattle.plans.specs.Plan.{by_kind};
@@ -11,9 +16,10 @@ ghost use Rattle.console.specs.Printed.{Printed};
 
 use engine::Answer;
 use plans::Header;
+pub use reading::read_full;
 
 // A request's answer, and its header.
-#[derive(Drop)]
+#[derive(Clone, Copy)]
 struct Served {
     header: Header,
     answer: Answer,
@@ -30,7 +36,7 @@ fn run_bytes(
     parents: &mut [i64],
     route: &mut [i64],
 ) -> Served
-    ensures { (result.header ≡ header_in (request_of bytes.now)) × Met (outcome (request_of bytes.now) (record { cells = cells.entry.now; log = log.old; results = by_kind distances.old parents.old route.old })) result.answer cells.exit.now log.new (by_kind distances.new parents.new route.new) }
+    ensures { (result.header ≡ header_in (request_of bytes.now)) × Met (outcome (request_of bytes.now) (record { cells = cells.old; log = log.old; results = by_kind distances.old parents.old route.old })) result.answer cells.new log.new (by_kind distances.new parents.new route.new) }
 {
     let mut words = [0u64; 1026];
     input::to_words(bytes, &mut words);

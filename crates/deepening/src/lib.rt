@@ -1,5 +1,7 @@
 // A word's depth from those of its cells, wherever these are kept.
 // Rests on ops.
+#![tactic(auto)]
+
 ghost use Rattle.std.specs.Prelude.{◌≡◌, ◌^◌, ◌<◌};
 ghost use Rattle.machine.specs.Depth.{rounds};
 ghost use Rattle.deepening.specs.Word.{read_of, depth_from};

@@ -147,6 +147,7 @@ unfolding network_of naming_of results_of
 over_lanes h ws (inl e) = (rw e, rw e, rw e)
 over_lanes h ws (inr (inl e)) = (rw e, rw e, rw e)
 over_lanes h ws (inr (inr (inl e))) = (rw e, rw e, rw e)
+over_lanes h ws (inr (inr (inr x3))) = elim x3 [ ]
 
 over_table : (h : Header) (ws : List ℕ) → h.method ≡ 2
     → (network_of h ws ≡ Entered h.vertices ws) × (naming_of h ws ≡ from_vertex) × ((results_of h parents).count ≡ h.vertices)

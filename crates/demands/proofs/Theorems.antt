@@ -16,7 +16,7 @@ use Rattle.plans.specs.Plan.{Kind, distances, parents, route, results_of}
 use Rattle.plans.proofs.Headers.{source_below}
 use Rattle.runner.proofs.PlanWithin.{within_plan}
 use Rattle.runner.proofs.Refused.{nine_exactly, seven_exactly, settled_plan}
-use Rattle.runner.proofs.Foreign.{refused_plan, told_plan, told_as_stood, length_whole as length-whole-plan, length_told_is, log_beyond, cells_long}
+use Rattle.runner.proofs.Foreign.{refused_plan, told_plan, told_as_stood, length_whole as length_whole_plan, length_told_is, log_beyond, cells_long}
 use Rattle.runner.proofs.Foreign.{cells_spared, replayed_plan, charge_plan, words_plan}
 use Rattle.limits.specs.WithinLimits.{header_in, words_in}
 use Rattle.limits.proofs.WithinLimits.{within}

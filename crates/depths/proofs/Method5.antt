@@ -36,6 +36,7 @@ verdict_most n m = omega arith
 traced_most : (n m d : ℕ) → 0 < n → max 7 d ≡ deep_after n m (n - 1) → 0 < m → d + 6 + m ≤ most n m
 unfolding most
 traced_most n zero d some deep edges = omega arith
+traced_most zero (suc m) d some deep edges = elim some [ ]
 traced_most (suc n) (suc m) d some deep edges = omega arith
 
 -- With the predecessors at b, what place k of the route chooses from is ready at x + k * (n + 6).
@@ -50,6 +51,7 @@ Ready n m d b x =
 ready : (n m d b : ℕ) → 0 < n → max 7 d ≡ deep_after n m (n - 1) → Raised (d + 6) m b → (x : ℕ) × Ready n m d b x
 unfolding most
 ready n zero d b some deep h = (7, omega (arith, h.1 refl))
+ready zero (suc m) d b some deep h = elim some [ ]
 ready (suc zero) (suc m) d b some deep h = (d + 6 + suc m, omega (arith, h.0))
 ready (suc (suc n)) (suc m) d b some deep h = (d + 6 + suc m, omega (arith, h.0))
 

@@ -1,6 +1,8 @@
 // The engine: a request run on lent buffers.
 // Rests on demands (what it promises), requests (checks), headers (figures), rounds, intake (the starting cells), planner (the plan) and
 // runner (carrying out).
+#![tactic(auto)]
+
 ghost use Rattle.std.specs.Prelude.{◌≡◌, ◌+◌, ◌≤◌, length};
 ghost use Rattle.std.proofs.lemmas.List.Edits.{sets};
 ghost use Rattle.machine.specs.Effect.{cell_at};
@@ -18,7 +20,7 @@ use plans::{Header, Span};
 use runner::PlanReport;
 
 // What a run answers besides its buffers.
-#[derive(Drop)]
+#[derive(Clone, Copy)]
 pub struct Report {
     pub rounds: u64,
     pub log_length: usize,
@@ -26,7 +28,7 @@ pub struct Report {
 }
 
 // 12, the loss circle of document 01, comes with the run's report.
-#[derive(Drop)]
+#[derive(Clone, Copy)]
 pub enum Answer {
     Ran(Report),
     NegativeCycle(Report),
@@ -95,7 +97,7 @@ pub fn run(
     parents: &mut [i64],
     route: &mut [i64],
 ) -> Answer
-    ensures { Met (outcome request.now (record { cells = cells.entry.now; log = log.old; results = by_kind distances.old parents.old route.old })) result cells.exit.now log.new (by_kind distances.new parents.new route.new) }
+    ensures { Met (outcome request.now (record { cells = cells.old; log = log.old; results = by_kind distances.old parents.old route.old })) result cells.new log.new (by_kind distances.new parents.new route.new) }
 {
     let lent = Lengths {
         cells: cells.len(),
@@ -117,7 +119,8 @@ pub fn run(
         log_length: carried.length,
         verdict: verdict_left(verdict, cells),
     };
-    if report.verdict == 1 {
+    let circle = report.verdict == 1;
+    if circle {
         return Answer::NegativeCycle(report);
     }
     copy_out(cells, f.distances, distances);

@@ -1,5 +1,7 @@
 // The engine for programs in other languages: five calls on plain numbers, with the answer as eight numbers (docs/CALLING.md).
 // Rests on answers, engine, requests, runner, planner and saved.
+#![tactic(auto)]
+
 ghost use Rattle.std.specs.Prelude.{◌≡◌};
 ghost use Rattle.answers.specs.Told.{refused};
 ghost use Rattle.plans.specs.Plan.{by_kind};
@@ -94,7 +96,7 @@ pub extern "C" fn vukstaja_run(
     route: &mut [i64],
     answer: &mut [u64; 8],
 )
-    ensures { LeftByRun (outcome request.now (record { cells = cells.entry.now; log = log.old; results = by_kind distances.old parents.old route.old })) answer.new cells.exit.now log.new (by_kind distances.new parents.new route.new) }
+    ensures { LeftByRun (outcome request.now (record { cells = cells.old; log = log.old; results = by_kind distances.old parents.old route.old })) answer.new cells.new log.new (by_kind distances.new parents.new route.new) }
 {
     *answer = run_numbers(engine::run(request, cells, log, distances, parents, route));
 }

@@ -3,15 +3,15 @@ use mathlib.Core.Path.{◌≡◌, refl, sym, ap, ◌∙◌, subst}
 use mathlib.Core.Logic.{◌↔◌, ◌⊎◌, inl, inr}
 use mathlib.Core.Bool.{Bool}
 use mathlib.Core.List.{List, [], ◌∷◌, ◌++◌}
-use mathlib.Core.Option.{Option, none, some}
-use Prim.Native.Nat.{ℕ, zero, suc, ◌+◌, ◌-◌, ◌*◌, ◌≤◌}
+use mathlib.Core.Option.{none, some}
+use Prim.Native.Nat.{ℕ, ◌≤◌}
 use native.Mathlib.Omega.{arith}
-use lib.Dec.{T, leb}
-use lib.ListN.{length, get_or, take, drop}
+use lib.Dec.{leb}
+use lib.ListN.{length, drop}
 use lib.Seq.{take-append_seam, drop_at}
 use Rattle.lists.proofs.Test.{by_test}
 use Rattle.answers.specs.declared.Refusal.{Refusal}
-use Rattle.answers.specs.Refusal.{plain, Method, Log, need, or_else}
+use Rattle.answers.specs.Refusal.{plain, Log, need, or_else}
 use Rattle.answers.specs.Told.{Told}
 use Rattle.answers.specs.Facts.{by_number}
 use Rattle.answers.proofs.Unmet.{first_append, or_else_none}
@@ -21,11 +21,11 @@ use Rattle.plans.proofs.Headers.{each_method}
 use Rattle.plans.proofs.Figures.{length_plan}
 use Rattle.headers.specs.Refusal.{header_tests, header_refusal}
 use Rattle.headers.proofs.Headers.{accepted}
-use Rattle.limits.specs.WithinLimits.{header_in, AllKept, FirstBroken, header_limits}
+use Rattle.limits.specs.WithinLimits.{AllKept, FirstBroken, header_limits}
 use Rattle.limits.proofs.Agreed.{Agree, Agrees, agreed}
 use Rattle.limits.proofs.Limits.{at_most, header_agrees}
-use Rattle.planner.specs.Written.{plan_refusal, plan_words}
-use Rattle.planner.specs.Facts.{writing_answered, buffer_left}
+use Rattle.planner.specs.Written.{plan_refusal}
+use Rattle.planner.specs.Facts.{writing_answered}
 use Rattle.facts.specs.Writing.{plan_figure, size_of, writing_limits, DemandWriting}
 
 figure : (h : Header) → Accepted h → length (plan_of h) ≡ plan_figure h.method h.vertices h.edges

@@ -1,12 +1,13 @@
 // Larger networks through the engine: 32 yards in every method, 60 lanes in methods 1 and 4, 128 in method 3, 59 in method 5, and the figures of
 // their runs.
 // Rests on engine, listings and replies; tests/model has the same networks, and expects the same figures.
+#![tactic(auto)]
+
 ghost use Rattle.std.specs.Prelude.{◌≡◌, ◌^◌, ◌<◌, ◌≤◌, length};
 ghost use Rattle.plans.specs.Plan.{Accepted};
 ghost use Rattle.engine.specs.Answer.{told_by_run};
 
 use engine::{Answer, Report};
-use libc::STDOUT_FILENO;
 use plans::Header;
 
 // -1 in the 32 bits of a price; in a table it says that there is no lane.
@@ -16,7 +17,7 @@ const MINUS_ONE: u64 = 4294967295;
 const MODULUS: u64 = 1000000007;
 
 // The networks, by what they are there for.
-#[derive(Drop)]
+#[derive(Clone, Copy)]
 enum Case {
     // A chain against the order of its lanes, then lanes anywhere: rebates, and many passes that change something.
     Chain,
@@ -307,7 +308,7 @@ fn put_run(
 }
 
 // Runs a request and prints that. Of these, method 3 needs the most cells, and method 1 the longest log.
-fn show(request: &[u64])
+fn show(rt: &impl Print, request: &[u64])
     requires { 1 ≤ length request.now }
 {
     let h = headers::read_header(request[0]);
@@ -326,44 +327,51 @@ fn show(request: &[u64])
     );
     let mut buffer = [0u8; 67416];
     let size = put_run(&mut buffer, h, answer, &log, &distances, &parents, &route);
-    io::write_all(STDOUT_FILENO, &buffer[..size]);
+    let _ = rt.write_all(&buffer[..size]);
 }
 
 // A case's request of method 5, run: the destination takes the place of the last word built.
-fn show_route(case: Case, seed: u64, header: u64, destination: u64, request: &mut [u64])
+fn show_route(
+    rt: &impl Print,
+    case: Case,
+    seed: u64,
+    header: u64,
+    destination: u64,
+    request: &mut [u64],
+)
     requires { (seed < 2 ^ 31) × (1 ≤ length request.old) × (length request.old ≤ 1025) }
 {
     build(case, seed, header, request);
     let last = request.len() - 1;
     request[last] = destination;
-    show(request);
+    show(rt, request);
 }
 
-fn main() {
+fn main(rt: HostRuntime) {
     let mut lanes = [0u64; 61];
     build(Case::Chain, 252, 0x1000200003C00000, &mut lanes);
-    show(&lanes);
+    show(&rt, &lanes);
     build(Case::Circle(59), 2, 0x1000200003C00000, &mut lanes);
-    show(&lanes);
+    show(&rt, &lanes);
     build(Case::Ties, 110, 0x1000200003C00005, &mut lanes);
-    show(&lanes);
+    show(&rt, &lanes);
     let mut table = [0u64; 1025];
     build(Case::Sparse, 4, 0x2000200000000000, &mut table);
-    show(&table);
+    show(&rt, &table);
     build(Case::Dense, 5, 0x200020000000001F, &mut table);
-    show(&table);
+    show(&rt, &table);
     let mut sorted = [0u64; 129];
     build(Case::SortedChain, 577, 0x3000200008000000, &mut sorted);
-    show(&sorted);
+    show(&rt, &sorted);
     build(Case::SortedCircle, 2, 0x3000200008000000, &mut sorted);
-    show(&sorted);
+    show(&rt, &sorted);
     build(Case::SortedTies, 282, 0x3000200008000005, &mut sorted);
-    show(&sorted);
-    show_route(Case::Chain, 1000, 0x5000200003B00000, 31, &mut lanes);
-    show_route(Case::Circle(58), 2, 0x5000200003B00000, 31, &mut lanes);
-    show_route(Case::Ties, 940, 0x5000200003B00005, 10, &mut lanes);
+    show(&rt, &sorted);
+    show_route(&rt, Case::Chain, 1000, 0x5000200003B00000, 31, &mut lanes);
+    show_route(&rt, Case::Circle(58), 2, 0x5000200003B00000, 31, &mut lanes);
+    show_route(&rt, Case::Ties, 940, 0x5000200003B00005, 10, &mut lanes);
     build(Case::Chain, 1000, 0x4000200003C00000, &mut lanes);
-    show(&lanes);
+    show(&rt, &lanes);
     build(Case::Apart, 7, 0x4000200003C00000, &mut lanes);
-    show(&lanes);
+    show(&rt, &lanes);
 }

@@ -1,5 +1,7 @@
 // A header: taken apart, refused or accepted, and the figures that follow from it, by its method.
 // Rests on answers, ops and plans.
+#![tactic(auto)]
+
 mod method1;
 mod method2;
 mod method3;
@@ -17,7 +19,7 @@ use answers::Checked;
 use plans::{Header, Span};
 
 // Where the verdict is.
-#[derive(Drop)]
+#[derive(Clone, Copy)]
 pub enum VerdictCell {
     At(usize),
     Nothing,
@@ -25,7 +27,7 @@ pub enum VerdictCell {
 
 // What follows from a header: the words after it, the plan's cells and words (the header word among them), the cell that its last word opens,
 // and the cells that results are copied from.
-#[derive(Drop)]
+#[derive(Clone, Copy)]
 pub struct Figures {
     pub words: usize,
     pub cells: usize,

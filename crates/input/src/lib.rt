@@ -1,5 +1,7 @@
 // A request's words from the bytes that a program read: eight bytes a word, most significant first.
 // Rests on fields, and on printing for what bytes make.
+#![tactic(auto)]
+
 ghost use Rattle.std.specs.Prelude.{◌≡◌, ◌+◌, ◌≤◌, length};
 ghost use Rattle.lists.specs.Buffers.{overwritten};
 ghost use Rattle.printing.specs.Bytes.{joined_from, whole_count, whole_words, handed_over};
@@ -35,7 +37,8 @@ pub fn handed_over(size: usize) -> usize
     if size < 8 {
         return 0;
     }
-    if size % 8 == 0 {
+    let whole = size % 8 == 0;
+    if whole {
         return whole_count(size);
     }
     WORDS

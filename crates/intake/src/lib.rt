@@ -1,5 +1,7 @@
 // Intake: the request's words laid into cells, by strips that follow from the header.
 // Rests on headers, requests, plans and fields.
+#![tactic(auto)]
+
 ghost use Rattle.std.specs.Prelude.{◌≡◌, [], ◌∷◌, ◌++◌, ◌≤◌, pos, length, drop};
 ghost use Rattle.std.proofs.lemmas.List.Edits.{sets};
 ghost use Rattle.plans.specs.Plan.{Accepted, word_count_of, cells_of};
@@ -8,7 +10,7 @@ ghost use Rattle.intake.specs.Intake.{strip, edge_strips, strips_of, part_of, co
 use plans::Header;
 
 // A field of a word. Entry is method 2's weight, -1 as FAR; Whole, all 64 bits, is method 5's destination.
-#[derive(Drop)]
+#[derive(Clone, Copy)]
 pub enum Part {
     From,
     To,
@@ -18,7 +20,7 @@ pub enum Part {
 }
 
 // `count` cells from `at` on, each with one part of one word, of the words from `word` on.
-#[derive(Drop)]
+#[derive(Clone, Copy)]
 pub struct Strip {
     pub at: usize,
     pub count: usize,

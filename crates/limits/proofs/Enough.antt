@@ -12,7 +12,6 @@ use lib.ListN.{length, get_or}
 use borrow.Author.Tests.{eq-eqb}
 use Rattle.answers.specs.declared.Refusal.{Refusal}
 use Rattle.answers.specs.declared.Checked.{Checked}
-use Rattle.answers.specs.declared.Checked.TheVariants as Checked
 use Rattle.answers.specs.Refusal.{Method, first_of, found, or_else}
 use Rattle.answers.specs.Told.{Told, refused}
 use Rattle.answers.proofs.Unmet.{first_none}

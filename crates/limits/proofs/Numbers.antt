@@ -9,7 +9,7 @@ use Prim.Native.Nat.{ℕ, suc}
 use lib.Dec.{ltb}
 use lib.ListN.{length}
 use Rattle.answers.specs.declared.Refusal.{Refusal}
-use Rattle.answers.specs.Refusal.{placed, Method, Vertices, Edges, Source, Words, Cells, Log, Results, SpareBits, Weight, FromVertex, ToVertex, Unsorted, Destination, or_else}
+use Rattle.answers.specs.Refusal.{Method, Vertices, Edges, Source, Words, Cells, Log, Results, SpareBits, Weight, FromVertex, ToVertex, Unsorted, Destination, or_else}
 use Rattle.answers.specs.Told.{Apart}
 use Rattle.answers.proofs.Unmet.{or_else_assoc}
 use Rattle.answers.proofs.Told.{Formed}

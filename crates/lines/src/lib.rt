@@ -1,5 +1,7 @@
 // What is written for one yard, one pair of yards and one step of a route, in a lent buffer.
 // Rests on printing and text.
+#![tactic(auto)]
+
 ghost use Rattle.std.specs.Prelude.{◌≡◌, ◌+◌, ◌≤◌, length};
 ghost use Rattle.text.specs.Text.{Put};
 ghost use Rattle.printing.specs.Texts.{distance_text, parent_text, yard_text, pair_text, left_out, listed_text, step_text};
@@ -8,7 +10,8 @@ fn put_distance(buffer: &mut [u8], at: usize, distance: i64) -> usize
     requires { at + 21 ≤ length buffer.old }
     ensures { Put 21 (distance_text distance) buffer.old buffer.new at result }
 {
-    if distance == plans::FAR {
+    let unreached = distance == plans::FAR;
+    if unreached {
         return text::put_byte(buffer, at, b'-');
     }
     text::put_signed(buffer, at, distance)
@@ -18,7 +21,8 @@ fn put_parent(buffer: &mut [u8], at: usize, parent: i64) -> usize
     requires { at + 21 ≤ length buffer.old }
     ensures { Put 21 (parent_text parent) buffer.old buffer.new at result }
 {
-    if parent < 0 {
+    let missing = parent < 0;
+    if missing {
         return text::put_byte(buffer, at, b'-');
     }
     text::put_signed(buffer, at, parent)
@@ -75,7 +79,8 @@ pub fn put_step(buffer: &mut [u8], at: usize, edge: i64) -> usize
     requires { at + 22 ≤ length buffer.old }
     ensures { Put 22 (step_text edge) buffer.old buffer.new at result }
 {
-    if edge < 0 {
+    let padding = edge < 0;
+    if padding {
         return at;
     }
     let next = text::put_byte(buffer, at, b' ');

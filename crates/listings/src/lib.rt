@@ -1,5 +1,7 @@
 // The lines of a run's results and of its log, in a lent buffer.
 // Rests on lines, printing and text.
+#![tactic(auto)]
+
 ghost use Rattle.std.specs.Prelude.{◌≡◌, ◌+◌, ◌*◌, ◌<◌, ◌≤◌, length};
 ghost use Rattle.text.specs.Text.{Put};
 ghost use Rattle.plans.specs.Blocks.{flat};
@@ -86,7 +88,8 @@ pub fn put_rows(
     ensures { Put (65 * 1024) (rows_text all h distances.now parents.now) buffer.old buffer.new at result }
 {
     let n = h.vertices as usize;
-    if h.method == 4 {
+    let by_pairs = h.method == 4;
+    if by_pairs {
         return put_table(buffer, at, all, n, distances);
     }
     put_yards(buffer, at, all, n, distances, parents)
@@ -111,7 +114,8 @@ pub fn put_route(buffer: &mut [u8], at: usize, h: Header, route: &[i64]) -> usiz
     requires { (at + 688 ≤ length buffer.old) × (0 < h.vertices) × (h.vertices ≤ 32) × (length route.now ≡ 31) }
     ensures { Put 688 (route_text h route.now) buffer.old buffer.new at result }
 {
-    if h.method != 5 {
+    let unrouted = h.method != 5;
+    if unrouted {
         return at;
     }
     let first = text::put_bytes(buffer, at, b"route");

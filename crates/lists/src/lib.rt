@@ -1,2 +1,3 @@
 // Theory only: tests, lists and what is written to a lent buffer, where the toolchain's library has no law.
 // Rests on nothing.
+#![tactic(auto)]

@@ -1,5 +1,7 @@
 // The greatest depth of words, with the cells' depths in the cells, whose numbers wait in the log: no room but what is lent.
 // Rests on deepening, ops and fields.
+#![tactic(auto)]
+
 ghost use Rattle.std.specs.Prelude.{◌≡◌, ◌^◌, ◌<◌, ◌≤◌, T, length, get_or, drop};
 ghost use Rattle.machine.specs.Word.{decode_at, admissible_at, admissible};
 ghost use Rattle.machine.specs.Log.{Admitted};

@@ -1,10 +1,12 @@
 // Operation words made, taken apart, tested, carried out on a bank of cells, and logged; and depths compared.
 // Rests on machine and fields.
+#![tactic(auto)]
+
 ghost use Rattle.std.specs.Prelude.{◌≡◌, ◌+◌, ◌^◌, ◌<◌, ◌≤◌, max, T, length, int_lt};
 ghost use Rattle.std.proofs.lemmas.List.Edits.{sets};
 ghost use Rattle.fields.specs.Fields.{signed_of, join_of};
 ghost use Rattle.machine.specs.Effect as Effect;
-ghost use Rattle.machine.specs.Instruction.{MOVEIF};
+ghost use Rattle.machine.specs.Instruction as Instruction;
 ghost use Rattle.machine.specs.Effect.{bit, eq_z, wrap_add, perform};
 ghost use Rattle.machine.specs.Word.{FieldsAre, packed, decode_at, admissible_at, admissible};
 ghost use Rattle.machine.specs.Value.{value_of};
@@ -37,7 +39,7 @@ pub fn pack(op: u64, d: u64, a: u64, b: u64) -> u64
 }
 
 // What `pack` put together.
-#[derive(Drop)]
+#[derive(Clone, Copy)]
 pub struct Parts {
     pub op: u64,
     pub d: u64,
@@ -61,7 +63,8 @@ pub fn split(word: u64) -> Parts
 fn admits_fields(count: u64, op: u64, d: u64, a: u64, b: u64) -> bool
     ensures { result ≡ admissible_at count op d a b }
 {
-    if OPEN < op {
+    let unknown = OPEN < op;
+    if unknown {
         return false;
     }
     if op == SET {
@@ -113,7 +116,8 @@ fn sum(x: i64, y: i64) -> i64
 fn less(x: i64, y: i64) -> i64
     ensures { result ≡ bit (int_lt x y) }
 {
-    if x < y { 1 } else { 0 }
+    let below = x < y;
+    if below { 1 } else { 0 }
 }
 
 fn equal(x: i64, y: i64) -> i64
@@ -148,10 +152,11 @@ fn value(op: u64, x: i64, y: i64) -> i64
 // MOVEIF, the most frequent instruction: nothing more is read or written where [a] is 0.
 fn move_if(cells: &mut [i64], d: u64, a: u64, b: u64)
     requires { (d < length cells.old) × (a < length cells.old) × (b < length cells.old) }
-    ensures { cells.new ≡ perform (MOVEIF d a b) cells.old }
+    ensures { cells.new ≡ perform (Instruction.MOVEIF d a b) cells.old }
 {
     let test = cells[a as usize];
-    if test == 0 {
+    let unmoved = test == 0;
+    if unmoved {
         return;
     }
     let moved = cells[b as usize];

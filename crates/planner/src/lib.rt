@@ -1,5 +1,7 @@
 // The plan of a header, written to a buffer, by its method.
 // Rests on answers, headers, ops, plans and tables.
+#![tactic(auto)]
+
 mod method1;
 mod method2;
 mod method3;
@@ -16,7 +18,7 @@ use answers::{Checked, Refusal};
 use plans::Header;
 
 // What writing a plan answers: its length, or a refusal.
-#[derive(Drop)]
+#[derive(Clone, Copy)]
 pub enum Written {
     Length(usize),
     Refused(Refusal),

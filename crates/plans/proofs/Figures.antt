@@ -2,7 +2,7 @@
 -- begin. Rests on the plans' weights.
 use mathlib.Core.Path.{◌≡◌, refl, ap, ◌∙◌}
 use mathlib.Core.List.{[], ◌∷◌}
-use Prim.Native.Nat.{ℕ, suc, ◌+◌, ◌-◌, ◌*◌, ◌<◌, ◌≤◌}
+use Prim.Native.Nat.{ℕ, zero, suc, ◌+◌, ◌-◌, ◌*◌, ◌<◌, ◌≤◌}
 use native.Mathlib.Nat.{mul-sub}
 use native.Mathlib.Omega.{arith}
 use lib.ListN.{length}
@@ -26,6 +26,7 @@ use Rattle.plans.proofs.Headers.{header, each_method, plan_length_is}
 length1 : (name : (region place : ℕ) → ℕ) (n m source : ℕ) → 0 < n
     → sum_of (λ i. 1) (Method1.plan name far n m source) + 1 ≡ 3 * n + 4 + m * (8 * (n * n) + 3 * n - 1)
 unfolding Method1.plan sum_of
+length1 name zero m source some = elim some [ ]
 length1 name (suc n) m source some =
     let e : suc n - 1 ≡ n = omega arith in
     ap (λ k. k + 1) (outline_weight_is name far (suc n) m source (λ op. 1) Method1.outline start) ∙ simp (e, mul-sub) (omega arith)
@@ -33,6 +34,7 @@ length1 name (suc n) m source some =
 length3 : (name : (region place : ℕ) → ℕ) (n m source : ℕ) → 0 < n
     → sum_of (λ i. 1) (Method3.plan name far n m source) + 1 ≡ 3 * (n * n) + 3 * n + 5 + m * (3 * (n * n) + 10 * n - 1)
 unfolding Method3.plan sum_of
+length3 name zero m source some = elim some [ ]
 length3 name (suc n) m source some =
     let e : suc n - 1 ≡ n = omega arith in
     ap (λ k. k + 1) (outline_weight_is name far (suc n) m source (λ op. 1) Method3.outline start) ∙ simp (e, mul-sub) (omega arith)
@@ -40,6 +42,7 @@ length3 name (suc n) m source some =
 length5 : (name : (region place : ℕ) → ℕ) (n m source : ℕ) → 0 < n
     → sum_of (λ i. 1) (Method5.plan name far n m source) + 1 ≡ 3 * (n * n) + 2 * n + 4 + m * (8 * (n * n) + 5 * n)
 unfolding Method5.plan sum_of
+length5 name zero m source some = elim some [ ]
 length5 name (suc n) m source some =
     let e : suc n - 1 ≡ n = omega arith in
     ap (λ k. k + 1) (outline_weight_is name far (suc n) m source (λ op. 1) Method5.outline start) ∙ simp (e, mul-sub) (omega arith)

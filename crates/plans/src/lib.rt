@@ -1,5 +1,6 @@
 // The header of a request and of its plan, and the limits. The rest of this crate is theory: the plans of the methods and the laws about them.
 // Rests on fields and machine.
+#![tactic(auto)]
 
 // The mark of an unreached vertex: the greatest number that SET writes.
 pub const FAR: i64 = 549755813887;
@@ -16,7 +17,7 @@ pub const MOST_WEIGHT: i64 = 100000000;
 pub const NO_EDGE: i64 = -1;
 
 // What is public of a request (document 01, "Request words": method, n yards, m lanes, source).
-#[derive(Drop)]
+#[derive(Clone, Copy)]
 pub struct Header {
     pub method: u64,
     pub vertices: u64,
@@ -25,14 +26,14 @@ pub struct Header {
 }
 
 // A row of cells: `count` of them, from cell `first` on.
-#[derive(Drop)]
+#[derive(Clone, Copy)]
 pub struct Span {
     pub first: usize,
     pub count: usize,
 }
 
 // The counters of the loops around a line of a plan, the outermost first.
-#[derive(Drop)]
+#[derive(Clone, Copy)]
 pub struct Counters {
     pub outer: u64,
     pub middle: u64,

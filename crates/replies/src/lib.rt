@@ -1,5 +1,7 @@
 // The text of an answer, and of a run's log, in a lent buffer.
 // Rests on answers, engine, listings and text.
+#![tactic(auto)]
+
 ghost use Rattle.std.specs.Prelude.{◌≡◌, ◌≤◌, length, get_or};
 ghost use Rattle.text.specs.Text.{Put};
 ghost use Rattle.plans.specs.Plan.{Accepted};

@@ -1,5 +1,7 @@
 // Requests: what a header asks for, and which refusal a request meets.
 // Rests on answers, fields, headers, limits and plans.
+#![tactic(auto)]
+
 ghost use Rattle.std.specs.Prelude.{◌≡◌, ◌<◌, leb, length, drop};
 ghost use Rattle.std.proofs.Math.Option.{none};
 ghost use Rattle.answers.specs.Refusal.{Weight, need, found};
@@ -16,7 +18,7 @@ use headers::{Figures, VerdictCell};
 use limits::Lengths;
 use plans::Header;
 
-#[derive(Drop)]
+#[derive(Clone, Copy)]
 pub enum Asked {
     Needs(Lengths),
     Refused(Refusal),

@@ -1,5 +1,7 @@
 // The rounds of a header's plan, by its method.
 // Rests on the header of plans, on ops, and on headers for how large the figures get.
+#![tactic(auto)]
+
 ghost use Rattle.std.specs.Prelude.{◌≡◌};
 ghost use Rattle.plans.specs.Plan.{Accepted, rounds_of_plan};
 

@@ -1,5 +1,7 @@
 // Rows: a plan's lines made ready for a header's counts and cells, one row each. The words that rows stand for are in specs.
 // One set of functions for every method. Rests on plans (outlines), ops and fields.
+#![tactic(auto)]
+
 ghost use Rattle.std.specs.Prelude.{◌≡◌, [], ◌∷◌, ◌++◌, map, ◌+◌, ◌*◌, ◌^◌, ◌<◌, ◌≤◌, length};
 ghost use Rattle.machine.specs.Instruction.{All};
 ghost use Rattle.rows.specs.Table.{rows_in};
@@ -9,7 +11,7 @@ ghost use Rattle.rows.specs.Code.{place_of, flags_of, set_number, set_other, set
 // kind 0, a word: where the counters are 0, what a step of each counter adds, and what is added unless the inner counter is the source.
 // kinds 1 to 5, a loop over the `outer` rows that follow, which turns `base` times: over the outer counter (1), the middle one (2), the
 // inner one (3), over none (4), and over the inner one where all its rows are words (5).
-#[derive(Drop)]
+#[derive(Clone, Copy)]
 pub struct Row {
     pub kind: u64,
     pub base: u64,

@@ -1,5 +1,7 @@
 // The runner: a plan from outside, carried out on lent cells and logged.
 // Rests on answers, charge, fields and ops.
+#![tactic(auto)]
+
 ghost use Rattle.std.specs.Prelude.{◌≡◌, ◌^◌, ◌≤◌, length, drop};
 ghost use Rattle.machine.specs.Log.{Admitted, cells_after, log_of};
 ghost use Rattle.deepening.specs.Worked.{WorkedOut};
@@ -8,19 +10,19 @@ ghost use Rattle.runner.specs.Runner.{bad_at, first_bad, found_of, log_size, Car
 use answers::Refusal;
 
 // What a run of a plan answers: its rounds, and the words of its log.
-#[derive(Drop)]
+#[derive(Clone, Copy)]
 pub struct PlanReport {
     pub rounds: u64,
     pub length: usize,
 }
 
-#[derive(Drop)]
+#[derive(Clone, Copy)]
 pub enum PlanAnswer {
     Ran(PlanReport),
     Refused(Refusal),
 }
 
-#[derive(Drop)]
+#[derive(Clone, Copy)]
 pub enum Found {
     At(usize),
     Nothing,
@@ -91,7 +93,7 @@ fn carry_plan(plan: &[u64], cells: &mut [i64], log: &mut [u64])
     log[0] = plan[0];
     let mut at: usize = 1;
     let mut k: usize = 1;
-    while k < plan.len() {
+    'words: while k < plan.len() {
         let word = plan[k];
         at = ops::append(cells, log, at, word);
         ops::step(cells, word);
@@ -118,7 +120,8 @@ pub fn run_plan(plan: &[u64], cells: &mut [i64], log: &mut [u64]) -> PlanAnswer
         return PlanAnswer::Refused(Refusal::at(answers::OPERATION, place));
     }
     let size = log_length(plan);
-    if log.len() < size {
+    let short = log.len() < size;
+    if short {
         return PlanAnswer::Refused(answers::LOG);
     }
     let rounds = rounds_of(plan, cells, log);

@@ -1,5 +1,7 @@
 // Distances saved before prices came in hundredths, converted to today's (document 02, ask 7).
 // Rests on answers and on plans, for the mark of an unreached vertex.
+#![tactic(auto)]
+
 ghost use Rattle.std.specs.Prelude.{◌≡◌, true, map};
 ghost use Rattle.std.proofs.Math.Option.{none};
 ghost use Rattle.answers.specs.Refusal.{found};
@@ -17,7 +19,7 @@ const OLD_MOST: i64 = 31000000;
 const FACTOR: i64 = 100;
 
 // What a conversion answers.
-#[derive(Drop)]
+#[derive(Clone, Copy)]
 pub enum Conversion {
     Converted,
     Refused(Refusal),

@@ -1,7 +1,9 @@
 // Tables: the words of a plan's lines, written to a buffer. The lines' rows lie in a table in memory, and their loops are carried out,
 // not expanded there. One set of functions for every method. Rests on rows and plans (counters).
+#![tactic(auto)]
+
 ghost use Rattle.std.specs.Prelude.{◌≡◌, ◌+◌, ◌-◌, ◌*◌, ◌^◌, ◌<◌, ◌≤◌, length};
-ghost use Rattle.plans.specs.Outline.{inner, counted-to};
+ghost use Rattle.plans.specs.Outline.{inner, counted_to};
 ghost use Rattle.rows.specs.Table.{word_of, turned, row_at};
 ghost use Rattle.tables.specs.Writing.{size_of, block, running, looping, unrolled, first_of, word_along, Spacious, Spaced, Ready, Wrote, Repeated, lines_words, Writable};
 
@@ -50,8 +52,8 @@ fn column(
     at: usize,
     end: usize,
 )
-    requires { Spacious table.now r size (λ j. word_of source (row_at table.now r) (counted-to inner j k)) at end out.old }
-    ensures { Spaced (λ j. word_of source (row_at table.now r) (counted-to inner j k)) size at end out.old out.new }
+    requires { Spacious table.now r size (λ j. word_of source (row_at table.now r) (counted_to inner j k)) at end out.old }
+    ensures { Spaced (λ j. word_of source (row_at table.now r) (counted_to inner j k)) size at end out.old out.new }
 {
     let first = first_of(table, r, k);
     let step = table[6 * r + 4];

@@ -1,5 +1,7 @@
 // Text written to a lent buffer, from a place on: each function that writes returns the place after it. And two texts compared.
 // Rests on fields, lists and io.
+#![tactic(auto)]
+
 ghost use Rattle.std.specs.Prelude.{◌≡◌, [], ◌∷◌, ◌+◌, ◌*◌, ◌<◌, ◌≤◌, length};
 ghost use Rattle.text.specs.Text.{decimal, signed, hexadecimal, after_word, numbers_line, same_bytes, Put};
 
@@ -40,7 +42,8 @@ pub fn put_signed(buffer: &mut [u8], at: usize, value: i64) -> usize
     ensures { Put 21 (signed value) buffer.old buffer.new at result }
 {
     let size = fields::magnitude(value);
-    if value < 0 {
+    let negative = value < 0;
+    if negative {
         let next = put_byte(buffer, at, b'-');
         return put_number(buffer, next, size);
     }

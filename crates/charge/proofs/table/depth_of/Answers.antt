@@ -1,0 +1,58 @@
+-- `charge::table::depth_of` meets its contract. Rests on deepening's Words.
+use Prim.Native.Nat.{◌<◌}
+use native.Mathlib.Omega.{arith}
+use lib.ListN.{length}
+use Rattle.machine.proofs.Admitted.{op_below}
+use Rattle.deepening.proofs.Words.{of_set, of_other, all_there}
+use Rattle.charge.proofs.table.depth_of.Goals as goal
+
+-- The op is one, and its three cells are there.
+there : (c : goal.Else-constant) → let s = c.args in
+    let n = length s.table.now in
+    (s.w.op < 8) × (s.w.a < n) × (s.w.b < n) × (s.w.d < n)
+there c = let p = c.requires.1 in
+    let h = all_there _ _ _ _ _ p c.if-constant.false in
+    (op_below _ _ _ _ _ p, h.0, h.1, h.2)
+
+pub returns-then-constant : goal.returns-then-constant
+returns-then-constant c = of_set _ _ _ _ _ c.if-constant.true
+
+pub depth_at-x-requires : goal.depth_at-x-requires
+depth_at-x-requires c = (there c).1
+
+pub depth_at-y-requires : goal.depth_at-y-requires
+depth_at-y-requires c =
+    let there : let s = c.args in let n = length s.table.now in (s.w.op < 8) × (s.w.a < n) × (s.w.b < n) × (s.w.d < n) =
+    let p = c.requires.1 in
+    let h = all_there _ _ _ _ _ p c.if-constant.false in
+    (op_below _ _ _ _ _ p, h.0, h.1, h.2) in
+    there.2
+
+pub depth_at-z-requires : goal.depth_at-z-requires
+depth_at-z-requires c =
+    let there : let s = c.args in let n = length s.table.now in (s.w.op < 8) × (s.w.a < n) × (s.w.b < n) × (s.w.d < n) =
+    let p = c.requires.1 in
+    let h = all_there _ _ _ _ _ p c.if-constant.false in
+    (op_below _ _ _ _ _ p, h.0, h.1, h.2) in
+    there.3
+
+pub depth_from-requires : goal.depth_from-requires
+depth_from-requires c =
+    let h : let s = c.args in let n = length s.table.now in (s.w.op < 8) × (s.w.a < n) × (s.w.b < n) × (s.w.d < n) = let p = c.requires.1 in
+    let h = all_there _ _ _ _ _ p c.if-constant.false in
+    (op_below _ _ _ _ _ p, h.0, h.1, h.2) in (
+      c.requires.0,
+      omega (arith, c.if-constant.false),
+      h.0,
+      omega (arith, c.depth_at-x.ensures.1),
+      omega (arith, c.depth_at-y.ensures.1),
+      omega (arith, c.depth_at-z.ensures.1),
+    )
+
+pub returns : goal.returns
+returns c =
+    let there : let s = c.args in let n = length s.table.now in (s.w.op < 8) × (s.w.a < n) × (s.w.b < n) × (s.w.d < n) =
+    let p = c.requires.1 in
+    let h = all_there _ _ _ _ _ p c.if-constant.false in
+    (op_below _ _ _ _ _ p, h.0, h.1, h.2) in
+    of_other _ _ _ _ _ there.0 c.depth_at-x.ensures.0 c.depth_at-y.ensures.0 c.depth_at-z.ensures.0 c.depth_from.ensures

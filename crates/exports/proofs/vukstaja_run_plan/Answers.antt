@@ -1,0 +1,9 @@
+-- `exports::vukstaja_run_plan` meets its contract. Rests on the definitions alone.
+use mathlib.Core.Path.{◌∙◌, ap}
+use Rattle.exports.specs.Answers.{numbers_of}
+use Rattle.exports.proofs.vukstaja_run_plan.Goals as goal
+
+pub returns : goal.returns
+returns c =
+    let m = c.run_plan.ensures in
+    record { answers = c.plan_numbers.ensures ∙ ap numbers_of m.answers; cells_left_are = m.cells_left_are; log_left = m.log_left }

@@ -1,0 +1,9 @@
+-- `exports::vukstaja_write_plan` meets its contract. Rests on the definitions alone.
+use mathlib.Core.Path.{◌∙◌, ap}
+use Rattle.exports.specs.Answers.{numbers_of}
+use Rattle.exports.proofs.vukstaja_write_plan.Goals as goal
+
+pub returns : goal.returns
+returns c =
+    let m = c.write_plan.ensures in
+    record { answers = c.written_numbers.ensures ∙ ap numbers_of m.answers; leaves = m.leaves }

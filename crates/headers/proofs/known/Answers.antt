@@ -1,0 +1,22 @@
+-- `headers::known` meets its contract. Rests on Headers.
+use native.Mathlib.Omega.{arith}
+use Rattle.headers.proofs.Headers.{no_other}
+use Rattle.headers.proofs.known.Goals as goal
+
+pub returns-in-1 : goal.returns-in-1
+returns-in-1 c = rw c.in-1.is
+
+pub returns-in-2 : goal.returns-in-2
+returns-in-2 c = rw c.in-2.is
+
+pub returns-in-3 : goal.returns-in-3
+returns-in-3 c = rw c.in-3.is
+
+pub returns-in-4 : goal.returns-in-4
+returns-in-4 c = rw c.in-4.is
+
+pub returns-in-5 : goal.returns-in-5
+returns-in-5 c = rw c.in-5.is
+
+pub returns-in_default : goal.returns-in_default
+returns-in_default c = no_other c.args.method (λ e. omega arith) (λ e. omega arith) (λ e. omega arith) (λ e. omega arith) (λ e. omega arith)
