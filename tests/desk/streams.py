@@ -2,7 +2,7 @@
 
 An answer that cannot be written is said on standard error, and an input that
 cannot be read counts as one that ends there.  The exit status is 0 all the
-same: the language has none.
+same.
 """
 
 import os

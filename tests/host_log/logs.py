@@ -106,7 +106,7 @@ def end_of_audit():
     line that is printed, a loss circle, and the line that is printed with it.
     """
     page = (ROOT / "docs" / "AUDIT.md").read_text()
-    found = re.search(r"\n    rt check host_log\n((?:    .*\n){3})", page)
+    found = re.search(r"\n    .*rt run .*\n((?:    .*\n){3})", page)
     after = " ".join(page[found.end():].split()) if found else ""
     quoted = re.findall("`([^`]*)`", after)
     if len(quoted) != 3:
@@ -120,7 +120,7 @@ def answer_to(commands, program):
     They are carried out in a folder that has the tools and the program.
     """
     with tempfile.TemporaryDirectory() as name:
-        made = Path(name, "target", "bin", "host_log")
+        made = Path(name, "crates", "host_log", "out", "host_log")
         made.parent.mkdir(parents=True)
         made.symlink_to(Path(program).resolve())
         Path(name, "tools").symlink_to(ROOT / "tools")

@@ -16,7 +16,8 @@ CRATE = Path(__file__).resolve().parents[2] / "crates" / "cases"
 STATEMENT = re.compile(
     r"let mut (?P<array>\w+) = \[(?P<fill>\w+?)u64; (?P<count>\d+)\];"
     r"|(?P<changed>\w+)\[(?P<place>\d+)\] = (?P<word>\w+);"
-    r'|send(?:_with\(\s*b"(?P<argument>[^"]*)",|\()\s*b"(?P<name>[^"]*)",'
+    r'|send(?:_with\(\s*rt,\s*b"(?P<argument>[^"]*)",|\(\s*rt,)'
+    r'\s*b"(?P<name>[^"]*)",'
     r"\s*&(?P<words>\[[^\]]*\]|\w+),\s*(?P<size>\d+),?\s*\);")
 
 
@@ -47,7 +48,8 @@ def main():
     for name, argument, sent in requests(source):
         expected += [name, *model.desk_lines(sent, argument)]
         count += 1
-    calls = re.findall(r'\bsend(?:_with\(\s*b"[^"]*",|\()\s*b"', source)
+    calls = re.findall(
+        r'\bsend(?:_with\(\s*rt,\s*b"[^"]*",|\(\s*rt,)\s*b"', source)
     if count != len(calls):
         sys.exit("cases: a request in main.rt could not be read")
     for place, (said, printed) in enumerate(zip(expected, stored), 1):
