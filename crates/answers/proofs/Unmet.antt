@@ -5,7 +5,7 @@ use mathlib.Core.Bool.{Bool, true, false}
 use mathlib.Core.List.{List, [], ◌∷◌, ◌++◌}
 use mathlib.Core.Option.{Option, none, some, some-ne-none}
 use lib.Dec.{T}
-use Rattle.answers.specs.declared.Refusal.{Refusal}
+use Rattle.answers.specs.Refusal.{Refusal}
 use Rattle.answers.specs.Refusal.{need, first_of, or_else}
 
 pub need_none : (b : Bool) (r : Refusal) (later : Option Refusal) → (need b r later ≡ none) ↔ (T b × (later ≡ none))

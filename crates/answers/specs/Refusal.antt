@@ -1,14 +1,18 @@
 -- Refusals (document 01, "Who caused it", with asks 1, 3 and 5 of document 02) by name, each with its number and place, and the first of several
 -- that is met. Rests on nothing.
-use Rattle.std.specs.Prelude.{Bool, true, false, cond, List, [], ◌∷◌, ℕ}
+use Rattle.std.specs.Prelude.{Bool, true, false, cond, List, [], ◌∷◌, ℕ, Result, Ok, Err, Some, None}
 use Rattle.std.proofs.Math.Option.{Option, none, some}
-use Rattle.answers.specs.declared.Refusal.{Refusal}
-use Rattle.answers.specs.declared.Checked.{Checked}
-use Rattle.answers.specs.declared.Checked.TheVariants.{Accepted, Refused}
-use Rattle.answers.specs.declared.Place.{Place}
-use Rattle.answers.specs.declared.Place.TheVariants.{At, Nowhere}
+use Rattle.std.specs.declared.option.Option as Code
+use Rattle.answers.specs.declared.Refusal as Answers
+use Rattle.answers.specs.declared.Refusal.TheVariants as Fault
 
 -- ---- numbers and places
+
+-- A refusal in the rules' terms.
+pub record Refusal : Type 0 where
+  pub number : ℕ
+  pub placed : Bool
+  pub place : ℕ
 
 -- A refusal without a place, and one with its place.
 abbrev pub plain : (number : ℕ) → Refusal
@@ -65,17 +69,41 @@ Destination = plain 16
 abbrev pub place_of : Refusal → Option ℕ
 place_of r = cond r.placed (some r.place) none
 
--- A place as the code has it.
-abbrev pub place_shown : Option ℕ → Place
-place_shown none = Nowhere
-place_shown (some place) = At place
+-- ---- as the code has them
+
+-- A refusal of the code by its number and place.
+abbrev pub rule_of : Answers.Refusal → Refusal
+rule_of Fault.Method = Method
+rule_of Fault.Vertices = Vertices
+rule_of Fault.Edges = Edges
+rule_of Fault.Source = Source
+rule_of Fault.Words = Words
+rule_of Fault.Cells = Cells
+rule_of Fault.Log = Log
+rule_of Fault.Results = Results
+rule_of (Fault.Operation place) = Operation place
+rule_of (Fault.SpareBits place) = SpareBits place
+rule_of (Fault.Weight place) = Weight place
+rule_of (Fault.FromVertex place) = FromVertex place
+rule_of (Fault.ToVertex place) = ToVertex place
+rule_of (Fault.Unsorted place) = Unsorted place
+rule_of Fault.Destination = Destination
+
+-- An optional value of the code.
+abbrev pub option_of : {T : Type 0} → Code.Option T → Option T
+option_of None = none
+option_of (Some x) = some x
+
+-- What a check answers that gives nothing.
+abbrev pub Checked : Type 0
+Checked = Result (Unit {0}) Answers.Refusal
+
+-- The refusal that a check found.
+abbrev pub found : {T : Type 0} → Result T Answers.Refusal → Option Refusal
+found (Ok passed) = none
+found (Err r) = some (rule_of r)
 
 -- ---- checks
-
--- What a check found.
-abbrev pub found : Checked → Option Refusal
-found Accepted = none
-found (Refused r) = some r
 
 -- r unless the test holds; where it does, what comes after it.
 abbrev pub need : Bool → Refusal → Option Refusal → Option Refusal

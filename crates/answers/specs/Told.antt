@@ -1,7 +1,7 @@
 -- An answer in document 01's terms, and that of a refusal. Rests on refusals.
 use Rattle.std.specs.Prelude.{◌≡◌, false, List, [], ℕ, eqb}
 use Rattle.std.proofs.Math.Option.{Option}
-use Rattle.answers.specs.declared.Refusal.{Refusal}
+use Rattle.answers.specs.Refusal.{Refusal}
 use Rattle.answers.specs.Refusal.{place_of}
 
 -- The refusal's number (0 where there is none), its place where there is one, and the values told.

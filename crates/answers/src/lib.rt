@@ -1,120 +1,66 @@
-// Answers in document 01's terms: the refusals, each by its number and place, and what a check found.
+// Answers in document 01's terms: the refusals, each with its number and, where there is one, its place.
 // Rests on nothing.
 #![tactic(auto)]
 
 ghost use Rattle.std.specs.Prelude.{◌≡◌};
-ghost use Rattle.answers.specs.Refusal.{placed, place_of, place_shown};
+ghost use Rattle.answers.specs.Refusal.{rule_of, place_of, option_of};
 
-// Why a request, a plan or a buffer is refused (document 01, "Who caused it"): its number and, where there is one, its place. 12 comes with a
-// run's own answer, so it is not among those below.
-#[derive(Clone, Copy)]
-pub struct Refusal {
-    pub number: u64,
-    pub placed: bool,
-    pub place: usize,
+// Why a request, a plan or a buffer is refused (document 01, "Who caused it"), by what is at fault; those that are about one word have its place.
+// 12 comes with a run's own answer, so it is not among them.
+#[derive(Clone, Copy, PartialEq, Eq)]
+pub enum Refusal {
+    Method,
+    Vertices,
+    Edges,
+    Source,
+    Words,
+    Cells,
+    Log,
+    Results,
+    Operation(usize),
+    SpareBits(usize),
+    Weight(usize),
+    FromVertex(usize),
+    ToVertex(usize),
+    Unsorted(usize),
+    Destination,
 }
-
-#[derive(Clone, Copy)]
-pub enum Checked {
-    Accepted,
-    Refused(Refusal),
-}
-
-// The place of a refusal, where there is one.
-#[derive(Clone, Copy)]
-pub enum Place {
-    At(usize),
-    Nowhere,
-}
-
-// Without a place, by what is at fault.
-pub const METHOD: Refusal = Refusal {
-    number: 1,
-    placed: false,
-    place: 0,
-};
-
-pub const VERTICES: Refusal = Refusal {
-    number: 2,
-    placed: false,
-    place: 0,
-};
-
-pub const EDGES: Refusal = Refusal {
-    number: 3,
-    placed: false,
-    place: 0,
-};
-
-pub const SOURCE: Refusal = Refusal {
-    number: 4,
-    placed: false,
-    place: 0,
-};
-
-pub const WORDS: Refusal = Refusal {
-    number: 5,
-    placed: false,
-    place: 0,
-};
-
-pub const CELLS: Refusal = Refusal {
-    number: 6,
-    placed: false,
-    place: 0,
-};
-
-pub const LOG: Refusal = Refusal {
-    number: 7,
-    placed: false,
-    place: 0,
-};
-
-pub const RESULTS: Refusal = Refusal {
-    number: 8,
-    placed: false,
-    place: 0,
-};
-
-pub const DESTINATION: Refusal = Refusal {
-    number: 16,
-    placed: false,
-    place: 0,
-};
-
-// The numbers of those with a place.
-pub const OPERATION: u64 = 9;
-
-pub const SPARE_BITS: u64 = 10;
-
-pub const WEIGHT: u64 = 11;
-
-pub const FROM_VERTEX: u64 = 13;
-
-pub const TO_VERTEX: u64 = 14;
-
-pub const UNSORTED: u64 = 15;
 
 impl Refusal {
-    // A refusal at a place.
-    pub fn at(number: u64, place: usize) -> Refusal
-        ensures { result ≡ placed number place }
+    pub fn number(self) -> u64
+        ensures { result ≡ (rule_of self).number }
     {
-        Refusal {
-            number,
-            placed: true,
-            place,
+        match self {
+            Refusal::Method => 1,
+            Refusal::Vertices => 2,
+            Refusal::Edges => 3,
+            Refusal::Source => 4,
+            Refusal::Words => 5,
+            Refusal::Cells => 6,
+            Refusal::Log => 7,
+            Refusal::Results => 8,
+            Refusal::Operation(_) => 9,
+            Refusal::SpareBits(_) => 10,
+            Refusal::Weight(_) => 11,
+            Refusal::FromVertex(_) => 13,
+            Refusal::ToVertex(_) => 14,
+            Refusal::Unsorted(_) => 15,
+            Refusal::Destination => 16,
         }
     }
 
     // Its place, where there is one.
-    pub fn place_of(self) -> Place
-        ensures { result ≡ place_shown (place_of self) }
+    pub fn place(self) -> Option<usize>
+        ensures { option_of result ≡ place_of (rule_of self) }
     {
-        if self.placed {
-            Place::At(self.place)
-        } else {
-            Place::Nowhere
+        match self {
+            Refusal::Operation(place)
+            | Refusal::SpareBits(place)
+            | Refusal::Weight(place)
+            | Refusal::FromVertex(place)
+            | Refusal::ToVertex(place)
+            | Refusal::Unsorted(place) => Some(place),
+            _ => None,
         }
     }
 }

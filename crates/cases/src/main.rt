@@ -10,10 +10,9 @@ fn send_with(rt: &impl Print, argument: &[u8], name: &[u8], words: &[u64], size:
     requires { (size ≤ 8 * length words.now) × (size ≤ 8208) }
 {
     let mut bytes = [0u8; 8208];
-    let mut i: usize = 0;
-    while i < size {
-        bytes[i] = fields::field(words[i / 8], 56 - 8 * (i % 8) as u32, 8) as u8;
-        i += 1;
+    let (eights, _) = bytes.as_chunks_mut::<8>();
+    for (eight, word) in eights.iter_mut().zip(words) {
+        *eight = word.to_be_bytes();
     }
     let _ = rt.write_all(name);
     let _ = rt.write_all(b"\n");

@@ -1,15 +1,16 @@
 -- Words that keep to the first cells; and a table of depths that are all 0. Rests on lists' Slices.
-use mathlib.Core.Path.{◌≡◌, refl}
-use mathlib.Core.Bool.{true, false}
+use mathlib.Core.Path.{◌≡◌, refl, sym}
+use mathlib.Core.Bool.{Bool, true, false, and-false}
 use mathlib.Core.List.{List, [], ◌∷◌}
 use mathlib.Core.Option.{Option, none, some}
-use Prim.Native.Nat.{ℕ, zero, suc, ◌+◌, ◌<◌, ◌≤◌}
+use Prim.Native.Nat.{ℕ, zero, suc, ◌<◌, ◌≤◌}
 use native.Mathlib.Nat.{le_of_eq}
 use native.Mathlib.Omega.{arith}
 use lib.Dec.{T, ltb, ltb→lt, lt→ltb}
-use lib.ListN.{length, get_or, drop, drop_of_length-le, replicate, length-replicate}
+use lib.ListN.{length, replicate}
 use mir.Facts.{and_yes, yes_and}
-use Rattle.lists.proofs.Slices.{next}
+use Rattle.std.specs.Bool.{MatchBool}
+use Rattle.std.specs.List.{AllWithin, HoldsAt}
 use Rattle.machine.specs.Instruction.{Instruction, addresses}
 use Rattle.machine.specs.Word.{op_field, d_field, b_field, decode, zeros_kept, all_below, present, admissible_at, admissible}
 use Rattle.machine.specs.Log.{Admitted}
@@ -42,18 +43,19 @@ wider few many l (w ∷ ws) a =
     let p = and_yes (zeros_kept (op_field w) (d_field w) (b_field w)) _ a.0 in
     (yes_and (zeros_kept (op_field w) (d_field w) (b_field w)) _ p.0 (present_wider few many l (decode w) p.1), wider few many l ws a.1)
 
-module _ (words : List ℕ) (count k : ℕ) where
-  pub enough_next : k < length words → admissible count (get_or words k 0) ≡ true → enough count (drop k words) ≡ enough count (drop (k + 1) words)
-  unfolding enough
-  enough_next h e = rw (next words k 0 h, e)
-
-  pub enough_not : k < length words → admissible count (get_or words k 0) ≡ false → enough count (drop k words) ≡ false
-  unfolding enough
-  enough_not h e = rw (next words k 0 h, e)
-
-  pub enough_end : length words ≤ k → enough count (drop k words) ≡ true
-  unfolding enough
-  enough_end h = rw (drop_of_length-le words h)
+-- Every word is admitted, or the one at some place is not.
+pub enough_by : (count : ℕ) (words : List ℕ) (r : Bool)
+    → MatchBool r (AllWithin (λ w. admissible count w ≡ true) words 0 (length words))
+    ((k : ℕ) × (k < length words) × HoldsAt (λ w. admissible count w ≡ false) words k)
+    → r ≡ enough count words
+unfolding enough
+enough_by count [] true h = refl
+enough_by count (w ∷ ws) true h =
+    rw (h 0 0 (omega arith) (omega arith)) (enough_by count ws true (λ k d l m. h (suc k) d (omega arith) (omega arith)))
+enough_by count [] false (k, l, e) = let no : ⊥ = omega arith in absurd no
+enough_by count (w ∷ ws) false (zero, l, e) = rw (e 0)
+enough_by count (w ∷ ws) false (suc k, l, e) =
+    rw (sym (enough_by count ws false (k, omega arith, e))) (sym (and-false (admissible count w)))
 
 -- ---- a fresh table
 
@@ -64,6 +66,3 @@ zeros (suc n) (suc a) = zeros n a
 
 pub fresh : (n : ℕ) → NoDeeper 0 (depths_in (replicate n 0))
 fresh n a = le_of_eq (zeros n a)
-
-pub admitted_fresh : (n v : ℕ) (words : List ℕ) → Admitted n words → Admitted (length (replicate n v)) words
-admitted_fresh n v words a = rw (length-replicate n v) a

@@ -6,9 +6,12 @@
 mod table;
 
 ghost use Rattle.std.specs.Prelude.{◌≡◌, ◌^◌, ◌≤◌, length};
+ghost use Rattle.machine.specs.Word.{admissible};
 ghost use Rattle.machine.specs.Log.{Admitted};
 ghost use Rattle.charge.specs.Table.{enough};
 ghost use Rattle.deepening.specs.Worked.{WorkedOut};
+
+use table::{FEW, MANY};
 
 // From so many words on, clearing the larger table takes less time than it saves.
 const SHORT: usize = 256;
@@ -17,32 +20,26 @@ const SHORT: usize = 256;
 fn fits(words: &[u64], count: usize) -> bool
     ensures { result ≡ enough count words.now }
 {
-    let mut k: usize = 0;
-    while k < words.len() {
-        if !ops::admits(words[k], count) {
-            return false;
-        }
-        k += 1;
-    }
-    true
+    words.iter().all(
+        |word: &u64| -> bool
+            ensures { result ≡ admissible count word.now }
+        { ops::admits(*word, count) },
+    )
 }
 
-// The rounds of operation words that the cells admit.
+// The rounds of operation words that the cells admit. What is asked is said of three lent slices together, so no type has it.
 pub fn depth_of(words: &[u64], cells: &mut [i64], log: &mut [u64]) -> u64
     requires { Admitted (length cells.old) words.now × (length words.now ≤ 2 ^ 24) × (length words.now ≤ length log.old) }
     ensures { WorkedOut words.now cells.old log.old result cells.new log.new }
 {
-    if cells.len() <= table::FEW {
-        return table::among_few(words);
+    if cells.len() <= FEW {
+        return table::among::<FEW>(words);
     }
     if words.len() < SHORT {
         return marks::greatest(words, cells, log);
     }
-    if cells.len() <= table::MANY {
-        return table::among_many(words);
-    }
-    if fits(words, table::MANY) {
-        return table::among_many(words);
+    if cells.len() <= MANY || fits(words, MANY) {
+        return table::among::<MANY>(words);
     }
     marks::greatest(words, cells, log)
 }

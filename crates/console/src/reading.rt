@@ -9,6 +9,7 @@ pub fn read_full<R: Read>(input: &mut R, bytes: &mut [u8]) -> usize
     ensures room { result ≤ length bytes.new }
     ensures read { Consumes (R.remaining input.old) (R.remaining input.new) (take result bytes.new) }
 {
+    // No `for`: how far a turn comes is what the read gave.
     let mut done = 0;
     while done < bytes.len() {
         match input.read(&mut bytes[done..]) {

@@ -2,7 +2,7 @@
 -- buffer, nothing assumed of their words. Rests on everything below; the proofs are in proofs/.
 use Rattle.std.specs.Prelude.{◌≡◌, ◌↔◌, ◌⊎◌, ◌≢◌, List, [], ◌∷◌, ◌++◌, ℕ, ◌+◌, ◌*◌, ◌^◌, ◌<◌, ◌≤◌, ℤ, pos, length, get_or, take, drop}
 use Rattle.std.proofs.Math.Option.{none, some}
-use Rattle.answers.specs.declared.Refusal.{Refusal}
+use Rattle.answers.specs.Refusal.{Refusal}
 use Rattle.answers.specs.Refusal.{plain, placed}
 use Rattle.answers.specs.Told.{refused}
 use Rattle.machine.specs.Instruction.{All}

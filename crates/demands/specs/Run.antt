@@ -2,7 +2,7 @@
 use Rattle.std.specs.Prelude.{cond, List, [], ◌∷◌, ℕ, zero, suc, ◌+◌, ◌<◌, ℤ, length, drop}
 use Rattle.std.proofs.Math.Option.{Option, none, some}
 use Rattle.lists.specs.Buffers.{overwritten}
-use Rattle.answers.specs.declared.Refusal.{Refusal}
+use Rattle.answers.specs.Refusal.{Refusal}
 use Rattle.answers.specs.Told.{Told, refused}
 use Rattle.fields.specs.Fields.{bits_of}
 use Rattle.machine.specs.Effect.{is_zero, cell_at}

@@ -14,7 +14,7 @@ use Rattle.lists.proofs.Filled.{from_start}
 use Rattle.machine.specs.Log.{Admitted, cells_after, log_of}
 use Rattle.machine.proofs.Carried.{length_after}
 use Rattle.plans.specs.declared.Header.{Header}
-use Rattle.plans.specs.Plan.{plan_of, length_of, verdict_cell, published, rounds_of_plan}
+use Rattle.plans.specs.Plan.{Accepted, plan_of, length_of, verdict_cell, published, rounds_of_plan}
 use Rattle.plans.proofs.Addresses.{admitted_plan}
 use Rattle.plans.proofs.Figures.{length_plan}
 use Rattle.depths.proofs.Rounds.{rounds_log}
@@ -34,13 +34,13 @@ further xs ys buffer h =
     ∙ sym (sets_append buffer 0 xs ys)
     ∙ from_start (xs ++ ys) buffer (omega arith)
 
-module _ {h : Header} {cells : List ℤ} {log : List ℕ} (r : Ready h cells log) where
+module _ {h : Header} (a : Accepted h) {cells : List ℤ} {log : List ℕ} (r : Ready h cells log) where
   pub plan_room : length_of h ≤ length log
   unfolding log_length_of
-  plan_room = omega (arith, log_length_is h r.allowed cells)
+  plan_room = omega (arith, log_length_is h a cells)
 
   plan_long : length (plan_of h) ≡ length_of h
-  plan_long = length_plan h r.allowed
+  plan_long = length_plan h a
 
   -- What `fill` leaves in the log.
   module _ {size : ℕ} {written : List ℕ} (done : (size ≡ length_of h) × (written ≡ overwritten (plan_of h) log)) where
@@ -54,7 +54,7 @@ module _ {h : Header} {cells : List ℤ} {log : List ℕ} (r : Ready h cells log
     plan_there = rw (done.0, done.1, ← plan_long) (take-append_seam (plan_of h) (drop (length (plan_of h)) log))
 
     pub words_admitted : Admitted (length cells) (drop 1 (take size written))
-    words_admitted = rw plan_there (admitted_plan h r.allowed (length cells) r.cells_enough)
+    words_admitted = rw plan_there (admitted_plan h a (length cells) r.cells_enough)
 
     -- What `carry_words` leaves.
     module _ {left : List ℤ} (carried : left ≡ cells_after (drop 1 (take size written)) cells) where
@@ -63,7 +63,7 @@ module _ {h : Header} {cells : List ℤ} {log : List ℕ} (r : Ready h cells log
 
       pub verdict_there : There (verdict_cell h) (length left)
       verdict_there =
-          verdict_below h r.allowed (length left) (omega (arith, ap length left_is, length_after (drop 1 (plan_of h)) cells))
+          verdict_below h a (length left) (omega (arith, ap length left_is, length_after (drop 1 (plan_of h)) cells))
 
       pub publish_room : size + length (published (verdict_cell h) 0) ≤ length written
       unfolding log_length_of
@@ -75,7 +75,7 @@ module _ {h : Header} {cells : List ℤ} {log : List ℕ} (r : Ready h cells log
             length-append (plan_of h) (drop (length (plan_of h)) log),
             length-drop (length (plan_of h)) log,
             plan_long,
-            log_length_is h r.allowed cells,
+            log_length_is h a cells,
           )
 
       -- What `publish` and `rounds_of` answer, and what is left.
@@ -85,11 +85,11 @@ module _ {h : Header} {cells : List ℤ} {log : List ℕ} (r : Ready h cells log
           → Carried h cells log (record { rounds = rounds; length = end }) left after
       ended {end} {after} {rounds} p figure =
           let word = opened_at (verdict_cell h) left in
-          let whole : log_of (plan_of h) cells ≡ plan_of h ++ word = log_plan h r.allowed cells ∙ rw left_is in
+          let whole : log_of (plan_of h) cells ≡ plan_of h ++ word = log_plan h a cells ∙ rw left_is in
           let long = ap length whole ∙ length-append (plan_of h) word in
           let z : size ≡ length (plan_of h) = done.0 ∙ sym plan_long in
           record {
-            charged = figure ∙ sym (rounds_log h r.allowed cells);
+            charged = figure ∙ sym (rounds_log h a cells);
             length_is = omega (arith, p.0, long);
             cells_left_are = left_is;
             log_left = p.1 ∙ rw (done.1, z, whole) (further (plan_of h) word log (omega arith));

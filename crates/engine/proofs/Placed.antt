@@ -2,6 +2,7 @@
 -- Rests on the laws of plans.
 use mathlib.Core.Path.{◌≡◌, refl}
 use mathlib.Core.List.{List}
+use Rattle.std.specs.Prelude.{Option, Some, None}
 use Prim.Native.Nat.{ℕ, ◌+◌, ◌^◌, ◌<◌, ◌≤◌}
 use native.Mathlib.Omega.{arith}
 use lib.IntN.{ℤ, pos}
@@ -16,9 +17,7 @@ use Rattle.machine.proofs.Tested.{zero_test, ne_test}
 use Rattle.plans.specs.declared.Header.{Header}
 use Rattle.plans.specs.Plan.{Accepted, cells_of, verdict_cell}
 use Rattle.plans.proofs.Headers.{each_method}
-use Rattle.headers.specs.declared.VerdictCell.{VerdictCell}
-use Rattle.headers.specs.declared.VerdictCell.TheVariants.{At, Nothing}
-use Rattle.headers.specs.Figures.{cell_in}
+use Rattle.answers.specs.Refusal.{option_of}
 use Rattle.demands.specs.Run.{verdict_at, opened_at, There}
 
 -- ---- it is there
@@ -34,21 +33,21 @@ verdict_below =
 
 -- ---- by the ways out
 
-module _ (v : VerdictCell) (cells : List ℤ) where
-  module _ (cell : ℕ) (is : v ≡ At cell) where
-    pub there : There (cell_in v) (length cells) → cell < length cells
+module _ (v : Option ℕ) (cells : List ℤ) where
+  module _ (cell : ℕ) (is : v ≡ Some cell) where
+    pub there : There (option_of v) (length cells) → cell < length cells
     there b = rw is at b
 
-    pub no_cycle : mag (cell_at cells cell) < 2 ^ 63 → of_z w64 (cell_at cells cell) ≡ 0 → 0 ≡ verdict_at (cell_in v) cells
+    pub no_cycle : mag (cell_at cells cell) < 2 ^ 63 → of_z w64 (cell_at cells cell) ≡ 0 → 0 ≡ verdict_at (option_of v) cells
     no_cycle small e = rw (is, zero_test (cell_at cells cell) (record { sfits = small }) e)
 
-    pub cycle : (of_z w64 (cell_at cells cell) ≡ 0 → ⊥) → 1 ≡ verdict_at (cell_in v) cells
+    pub cycle : (of_z w64 (cell_at cells cell) ≡ 0 → ⊥) → 1 ≡ verdict_at (option_of v) cells
     cycle e = rw (is, ne_test (cell_at cells cell) (pos 0) e)
 
     pub published_cell : (log : List ℕ) (at word : ℕ) → word ≡ bits_of 64 (cell_at cells cell)
-        → (at + 1 ≡ at + length (opened_at (cell_in v) cells)) × (set log at word ≡ sets log at (opened_at (cell_in v) cells))
+        → (at + 1 ≡ at + length (opened_at (option_of v) cells)) × (set log at word ≡ sets log at (opened_at (option_of v) cells))
     published_cell log at word e = rw (is, e) (refl, refl)
 
-  pub nothing_published : v ≡ Nothing → (log : List ℕ) (at : ℕ)
-      → (at ≡ at + length (opened_at (cell_in v) cells)) × (log ≡ sets log at (opened_at (cell_in v) cells))
+  pub nothing_published : v ≡ None → (log : List ℕ) (at : ℕ)
+      → (at ≡ at + length (opened_at (option_of v) cells)) × (log ≡ sets log at (opened_at (option_of v) cells))
   nothing_published is log at = rw is (omega arith, refl)

@@ -5,12 +5,11 @@ use Rattle.lists.specs.Buffers.{overwritten}
 use Rattle.machine.specs.Log.{cells_after, log_of}
 use Rattle.machine.specs.Depth.{charge_of}
 use Rattle.plans.specs.declared.Header.{Header}
-use Rattle.plans.specs.Plan.{Accepted, plan_of, cells_of}
+use Rattle.plans.specs.Plan.{plan_of, cells_of}
 use Rattle.runner.specs.declared.PlanReport.{PlanReport}
 
--- A header that is accepted, and room for its run in the cells and in the log.
+-- Room for the run of an accepted header in the cells and in the log.
 pub record Ready (h : Header) (cells : List ℤ) (log : List ℕ) : Type 0 where
-  pub allowed : Accepted h
   pub cells_enough : cells_of h ≤ length cells
   pub log_enough : length (log_of (plan_of h) cells) ≤ length log
 

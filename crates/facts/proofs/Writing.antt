@@ -10,7 +10,7 @@ use lib.Dec.{leb}
 use lib.ListN.{length, drop}
 use lib.Seq.{take-append_seam, drop_at}
 use Rattle.lists.proofs.Test.{by_test}
-use Rattle.answers.specs.declared.Refusal.{Refusal}
+use Rattle.answers.specs.Refusal.{Refusal}
 use Rattle.answers.specs.Refusal.{plain, Log, need, or_else}
 use Rattle.answers.specs.Told.{Told}
 use Rattle.answers.specs.Facts.{by_number}

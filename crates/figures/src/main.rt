@@ -3,12 +3,15 @@
 // Rests on engine, listings and replies; tests/model has the same networks, and expects the same figures.
 #![tactic(auto)]
 
-ghost use Rattle.std.specs.Prelude.{◌≡◌, ◌^◌, ◌<◌, ◌≤◌, length};
+ghost use Rattle.std.specs.Prelude.{◌≡◌, List, ℕ, ◌^◌, ◌<◌, ◌≤◌, length};
 ghost use Rattle.plans.specs.Plan.{Accepted};
 ghost use Rattle.engine.specs.Answer.{told_by_run};
+ghost use Rattle.text.specs.Appended.{Room, Appended};
 
-use engine::{Answer, Report};
+use engine::{Failure, Report};
+use headers::AcceptedHeader;
 use plans::Header;
+use text::Text;
 
 // -1 in the 32 bits of a price; in a table it says that there is no lane.
 const MINUS_ONE: u64 = 4294967295;
@@ -39,14 +42,25 @@ enum Case {
     Apart,
 }
 
-// The next draw, a number below `k`; `x` is where the draws stand.
-fn draw(x: &mut u64, k: u64) -> u64
-    requires { (x.old < 2 ^ 31) × (0 < k) }
-    ensures { (x.new < 2 ^ 31) × (result < k) }
-{
-    *x = (*x * 1103515245 + 12345) % 2147483648;
-    *x / 65536 % k
+// Where the draws stand.
+#[derive(Clone, Copy)]
+struct Draws {
+    x: u64,
+    ghost small: { x < 2 ^ 31 },
 }
+
+impl Draws {
+    // The next draw, a number below `k`.
+    fn below(&mut self, k: u64) -> u64
+        requires { 0 < k }
+        ensures { result < k }
+    {
+        self.x = (self.x * 1103515245 + 12345) % 2147483648;
+        self.x / 65536 % k
+    }
+}
+
+// Yards are below 32 and lanes' numbers below 128, said where they are taken: a type for either would be taken apart at once.
 
 // The word of a lane, its price as 32 bits.
 fn lane(from: u64, to: u64, price: u64) -> u64
@@ -87,66 +101,55 @@ fn climb(from: u64, to: u64, base: u64) -> u64
 }
 
 // A climb between any two yards from yard `first` on, its base at least `least`.
-fn anywhere(x: &mut u64, first: u64, least: u64) -> u64
-    requires { (x.old < 2 ^ 31) × (first < 2) × (least < 2) }
-    ensures { x.new < 2 ^ 31 }
+fn anywhere(draws: &mut Draws, first: u64, least: u64) -> u64
+    requires { (first < 2) × (least < 2) }
 {
-    let from = first + draw(x, 32 - first);
-    let to = first + draw(x, 32 - first);
-    climb(from, to, least + draw(x, 400))
+    let from = first + draws.below(32 - first);
+    let to = first + draws.below(32 - first);
+    climb(from, to, least + draws.below(400))
 }
 
 // Lane `i` of the chain's request. No base is negative, so no circle has a loss.
-fn chain(x: &mut u64, i: u64) -> u64
-    requires { x.old < 2 ^ 31 }
-    ensures { x.new < 2 ^ 31 }
-{
+fn chain(draws: &mut Draws, i: u64) -> u64 {
     if i < 31 {
-        return climb(30 - i, 31 - i, draw(x, 30));
+        return climb(30 - i, 31 - i, draws.below(30));
     }
-    anywhere(x, 0, 0)
+    anywhere(draws, 0, 0)
 }
 
 // Lane `i` of the request with a circle from yard `first` on. Only the circle that the last lane closes has a loss: lanes anywhere have a base of
 // 1 or more.
-fn circle(x: &mut u64, i: u64, first: u64, last: u64) -> u64
-    requires { (x.old < 2 ^ 31) × (first < 2) }
-    ensures { x.new < 2 ^ 31 }
+fn circle(draws: &mut Draws, i: u64, first: u64, last: u64) -> u64
+    requires { first < 2 }
 {
     if i < 31 - first {
         return climb(30 - i, 31 - i, 0);
     }
     if i < last {
-        return anywhere(x, first, 1);
+        return anywhere(draws, first, 1);
     }
     climb(31, first, MINUS_ONE)
 }
 
 // Lane `i` of the ties' request. The first twelve go round by threes on one height, so their price is 0; the yards from 24 on are entered
 // from there only.
-fn ties(x: &mut u64, i: u64) -> u64
-    requires { x.old < 2 ^ 31 }
-    ensures { x.new < 2 ^ 31 }
-{
+fn ties(draws: &mut Draws, i: u64) -> u64 {
     if i < 12 {
         return lane(i, i / 3 * 3 + (i + 1) % 3, 0);
     }
-    let from = draw(x, 32);
+    let from = draws.below(32);
     if from < 24 {
-        let to = draw(x, 24);
-        return lane(from, to, raised(draw(x, 3), stepped(from), stepped(to)));
+        let to = draws.below(24);
+        return lane(from, to, raised(draws.below(3), stepped(from), stepped(to)));
     }
-    let to = draw(x, 32);
-    lane(from, to, MINUS_ONE - draw(x, 3))
+    let to = draws.below(32);
+    lane(from, to, MINUS_ONE - draws.below(3))
 }
 
 // Entry `i` of the sparse table, by rows. The yards from 28 on are entered from there only.
-fn sparse(x: &mut u64, i: u64) -> u64
-    requires { x.old < 2 ^ 31 }
-    ensures { x.new < 2 ^ 31 }
-{
-    let entry = draw(x, 8);
-    let price = draw(x, 1000);
+fn sparse(draws: &mut Draws, i: u64) -> u64 {
+    let entry = draws.below(8);
+    let price = draws.below(1000);
     if entry == 0 && (28 <= i / 32 || i % 32 < 28) {
         return price;
     }
@@ -162,31 +165,28 @@ fn apart(u: u64, v: u64) -> u64
 }
 
 // Entry `i` of the dense table, by rows.
-fn dense(x: &mut u64, i: u64) -> u64
-    requires { (x.old < 2 ^ 31) × (i < 1024) }
-    ensures { x.new < 2 ^ 31 }
+fn dense(draws: &mut Draws, i: u64) -> u64
+    requires { i < 1024 }
 {
     let gap = apart(i / 32, i % 32);
-    gap * gap + draw(x, 4)
+    gap * gap + draws.below(4)
 }
 
 // Lane `i` of the sorted chain's request: four to each yard, the first of them from the yard before it.
-fn sorted_chain(x: &mut u64, i: u64) -> u64
-    requires { (x.old < 2 ^ 31) × (i < 128) }
-    ensures { x.new < 2 ^ 31 }
+fn sorted_chain(draws: &mut Draws, i: u64) -> u64
+    requires { i < 128 }
 {
     let to = i / 4;
     if i % 4 == 0 {
-        return climb((to + 31) % 32, to, draw(x, 30));
+        return climb((to + 31) % 32, to, draws.below(30));
     }
-    let from = draw(x, 32);
-    climb(from, to, 100 + draw(x, 400))
+    let from = draws.below(32);
+    climb(from, to, 100 + draws.below(400))
 }
 
 // Lane `i` of the sorted circle's request. Lane 0 closes the circle; lanes anywhere have a base of 1 or more.
-fn sorted_circle(x: &mut u64, i: u64) -> u64
-    requires { (x.old < 2 ^ 31) × (i < 128) }
-    ensures { x.new < 2 ^ 31 }
+fn sorted_circle(draws: &mut Draws, i: u64) -> u64
+    requires { i < 128 }
 {
     let to = i / 4;
     if i == 0 {
@@ -195,46 +195,44 @@ fn sorted_circle(x: &mut u64, i: u64) -> u64
     if i % 4 == 0 {
         return climb(to - 1, to, 0);
     }
-    let from = draw(x, 32);
-    climb(from, to, 1 + draw(x, 400))
+    let from = draws.below(32);
+    climb(from, to, 1 + draws.below(400))
 }
 
 // Lane `i` of the sorted ties' request.
-fn sorted_ties(x: &mut u64, i: u64) -> u64
-    requires { (x.old < 2 ^ 31) × (i < 128) }
-    ensures { x.new < 2 ^ 31 }
+fn sorted_ties(draws: &mut Draws, i: u64) -> u64
+    requires { i < 128 }
 {
     if 96 <= i {
-        let from = 24 + draw(x, 8);
-        return lane(from, 24 + (i - 96) / 8 * 2, MINUS_ONE - draw(x, 3));
+        let from = 24 + draws.below(8);
+        return lane(from, 24 + (i - 96) / 8 * 2, MINUS_ONE - draws.below(3));
     }
     let to = i / 4;
     if i % 4 == 0 {
         return lane(to / 3 * 3 + (to + 2) % 3, to, 0);
     }
-    let from = draw(x, 32);
+    let from = draws.below(32);
     if from < 24 {
-        return lane(from, to, raised(draw(x, 3), stepped(from), stepped(to)));
+        return lane(from, to, raised(draws.below(3), stepped(from), stepped(to)));
     }
-    lane(from, to, MINUS_ONE - draw(x, 3))
+    lane(from, to, MINUS_ONE - draws.below(3))
 }
 
 // Word `i` of a case's request, counted after the header.
-fn word_of(case: Case, x: &mut u64, i: u64) -> u64
-    requires { (x.old < 2 ^ 31) × (i < 1024) }
-    ensures { x.new < 2 ^ 31 }
+fn word_of(case: Case, draws: &mut Draws, i: u64) -> u64
+    requires { i < 1024 }
 {
     // A sorted case has 128 lanes.
     match case {
-        Case::Chain => chain(x, i),
-        Case::Circle(last) => circle(x, i, 0, last),
-        Case::Ties => ties(x, i),
-        Case::Sparse => sparse(x, i),
-        Case::Dense => dense(x, i),
-        Case::SortedChain => sorted_chain(x, i % 128),
-        Case::SortedCircle => sorted_circle(x, i % 128),
-        Case::SortedTies => sorted_ties(x, i % 128),
-        Case::Apart => circle(x, i, 1, 59),
+        Case::Chain => chain(draws, i),
+        Case::Circle(last) => circle(draws, i, 0, last),
+        Case::Ties => ties(draws, i),
+        Case::Sparse => sparse(draws, i),
+        Case::Dense => dense(draws, i),
+        Case::SortedChain => sorted_chain(draws, i % 128),
+        Case::SortedCircle => sorted_circle(draws, i % 128),
+        Case::SortedTies => sorted_ties(draws, i % 128),
+        Case::Apart => circle(draws, i, 1, 59),
     }
 }
 
@@ -243,32 +241,25 @@ fn build(case: Case, seed: u64, header: u64, request: &mut [u64])
     requires { (seed < 2 ^ 31) × (1 ≤ length request.old) × (length request.old ≤ 1025) }
 {
     request[0] = header;
-    let mut x = seed;
-    let mut i: usize = 1;
-    while i < request.len() {
-        request[i] = word_of(case, &mut x, (i - 1) as u64);
-        i += 1;
+    let mut draws = Draws { x: seed };
+    for (i, word) in request[1..].iter_mut().enumerate() {
+        *word = word_of(case, &mut draws, i as u64);
     }
 }
 
-// A checksum over the first `length` words of a log.
+// A checksum over the first `length` words of a log, or over all where there are no more.
 fn checksum(log: &[u64], length: usize) -> u64 {
     let mut sum: u64 = 0;
-    let mut i: usize = 0;
-    while i < length {
-        if log.len() <= i {
-            return sum;
-        }
-        sum = (sum * 31 + log[i] % MODULUS) % MODULUS;
-        i += 1;
+    for word in &log[..length.min(log.len())] {
+        sum = (sum * 31 + word % MODULUS) % MODULUS;
     }
     sum
 }
 
-// `method yards lanes source rounds length verdict checksum`, from the start of `buffer`.
-fn put_figures(buffer: &mut [u8], h: Header, report: Report, log: &[u64]) -> usize
-    requires { 168 ≤ length buffer.old }
-    ensures { result ≤ 168 }
+// `method yards lanes source rounds length verdict checksum`
+fn put_figures(text: &mut Text<'_>, h: Header, report: Report, log: &[u64])
+    requires { Room 168 text.old }
+    ensures { (figures : List ℕ) × Appended 168 figures text.old text.new }
 {
     let line = [
         h.method,
@@ -280,30 +271,30 @@ fn put_figures(buffer: &mut [u8], h: Header, report: Report, log: &[u64]) -> usi
         report.verdict,
         checksum(log, report.log_length),
     ];
-    text::put_numbers(buffer, 0, &line)
+    text.put_numbers(&line);
 }
 
 // A run's figures and, where there are results, its rows and its route.
 fn put_run(
-    buffer: &mut [u8],
+    text: &mut Text<'_>,
     h: Header,
-    answer: Answer,
+    answer: Result<Report, Failure>,
     log: &[u64],
-    distances: &[i64],
-    parents: &[i64],
-    route: &[i64],
-) -> usize
-    requires { (67416 ≤ length buffer.old) × (length distances.now ≡ 1024) × (length parents.now ≡ 32) × (length route.now ≡ 31) × ((told_by_run answer).number ≡ 0 → Accepted h) }
-    ensures { result ≤ length buffer.new }
+    distances: &[i64; 1024],
+    parents: &[i64; 32],
+    route: &[i64; 31],
+)
+    requires { Room 67416 text.old × ((told_by_run answer).number ≡ 0 → Accepted h) }
+    ensures { (printed : List ℕ) × Appended 67416 printed text.old text.new }
 {
     match answer {
-        Answer::Ran(report) => {
-            let next = put_figures(buffer, h, report, log);
-            let last = listings::put_rows(buffer, next, true, h, distances, parents);
-            listings::put_route(buffer, last, h, route)
+        Ok(report) => {
+            put_figures(text, h, report, log);
+            listings::put_rows(text, true, AcceptedHeader { header: h }, distances, parents);
+            listings::put_route(text, h, route);
         }
-        Answer::NegativeCycle(report) => put_figures(buffer, h, report, log),
-        Answer::Refused(_) => text::put_bytes(buffer, 0, b"refused\n"),
+        Err(Failure::NegativeCycle(report)) => put_figures(text, h, report, log),
+        Err(Failure::Refused(_)) => text.put_bytes(b"refused\n"),
     }
 }
 
@@ -326,7 +317,9 @@ fn show(rt: &impl Print, request: &[u64])
         &mut route,
     );
     let mut buffer = [0u8; 67416];
-    let size = put_run(&mut buffer, h, answer, &log, &distances, &parents, &route);
+    let mut text = Text::new(&mut buffer);
+    put_run(&mut text, h, answer, &log, &distances, &parents, &route);
+    let size = text.len();
     let _ = rt.write_all(&buffer[..size]);
 }
 

@@ -9,8 +9,9 @@ use Rattle.plans.specs.Plan.{Accepted, verdict_cell}
 use Rattle.plans.proofs.Bounds.{square_le, cube_le, edges_le}
 use Rattle.plans.proofs.EachKind.{each_kind}
 use Rattle.plans.proofs.Headers.{each_method, edges_small}
+use Rattle.answers.specs.Refusal.{option_of}
 use Rattle.headers.specs.declared.Figures.{Figures}
-use Rattle.headers.specs.Figures.{cell_in, in_code, figures_of, Figured}
+use Rattle.headers.specs.Figures.{in_code, figures_of, Figured}
 
 -- The last method.
 pub method_five : (h : Header) → Accepted h → (h.method ≡ 1 → ⊥) → (h.method ≡ 2 → ⊥) → (h.method ≡ 3 → ⊥) → (h.method ≡ 4 → ⊥)
@@ -63,7 +64,7 @@ sizes h a =
 
 -- ---- the figures, one by one
 
-found : (o : Option ℕ) → cell_in (in_code o) ≡ o
+found : (o : Option ℕ) → option_of (in_code o) ≡ o
 found none = refl
 found (some cell) = refl
 

@@ -1,54 +1,42 @@
 -- Which refusal a header meets, by the ways out of `check_header`; a header that meets none is within the limits.
 -- Rests on answers' Unmet and Meets.
-use mathlib.Core.Path.{◌≡◌, sym}
-use mathlib.Core.Bool.{Bool, false, true, not}
+use mathlib.Core.Path.{◌≡◌, refl, sym, ap, ◌∙◌}
+use mathlib.Core.Logic.{◌⊎◌, inl, inr}
+use mathlib.Core.Bool.{false, true}
 use mathlib.Core.Option.{none, some}
 use Prim.Native.Nat.{ℕ, ◌<◌, ◌≤◌}
 use native.Mathlib.Omega.{arith}
-use lib.Dec.{eqb, ltb, ltb→lt, leb→le}
-use borrow.Author.Tests.{ne_eqb, eqb-true, lt-ltb, le-ltb, le-leb, lt-leb, not-true, not-false}
+use lib.Dec.{ltb, ltb→lt, leb→le}
+use borrow.Author.Tests.{lt-ltb, le-ltb, le-leb, lt-leb}
 use mir.Facts.{and_yes}
-use Rattle.lists.proofs.Test.{by_test}
-use Rattle.answers.specs.declared.Refusal.{Refusal}
+use Rattle.answers.specs.Refusal.{Refusal}
 use Rattle.answers.specs.Refusal.{Method, Vertices, Edges, Source, need}
 use Rattle.answers.proofs.Unmet.{first_none}
 use Rattle.answers.proofs.Meets.{Meets, first_meets}
 use Rattle.plans.specs.declared.Header.{Header}
 use Rattle.plans.specs.Limits.{known_method, most_edges, source_count}
 use Rattle.plans.specs.Plan.{Accepted}
+use Rattle.headers.specs.declared.Method as Code
+use Rattle.headers.specs.declared.Method.TheVariants.{BellmanFord, Dijkstra, Jacobi, FloydWarshall, Routed}
+use Rattle.headers.specs.Method.{number_of}
 use Rattle.headers.specs.Refusal.{header_tests, header_refusal}
 
--- No other method is known.
-pub no_other : (method : ℕ) → (method ≡ 1 → ⊥) → (method ≡ 2 → ⊥) → (method ≡ 3 → ⊥) → (method ≡ 4 → ⊥) → (method ≡ 5 → ⊥)
-    → false ≡ known_method method
-no_other method a b c d f = rw (ne_eqb method 1 a, ne_eqb method 2 b, ne_eqb method 3 c, ne_eqb method 4 d, ne_eqb method 5 f)
+-- A method's number is known.
+pub known_number : (method : Code.Method) → known_method (number_of method) ≡ true
+known_number BellmanFord = refl
+known_number Dijkstra = refl
+known_number Jacobi = refl
+known_number FloydWarshall = refl
+known_number Routed = refl
 
--- All but method 2 have edges.
-pub no_edges : (method : ℕ) → (method ≡ 1 → ⊥) → (method ≡ 3 → ⊥) → (method ≡ 4 → ⊥) → (method ≡ 5 → ⊥) → 0 ≡ most_edges method
-no_edges method a c d f =
-    by_test (eqb method 2) (λ e. rw (eqb-true method 2 e))
-    (λ e. rw (ne_eqb method 1 a, e, ne_eqb method 3 c, ne_eqb method 4 d, ne_eqb method 5 f))
+pub method_unknown : (h : Header) → known_method h.method ≡ false → some Method ≡ header_refusal h
+unfolding header_refusal
+method_unknown h unknown = simp unknown
 
--- Method 4 has one source, and any other as many as there are vertices.
-pub one_source : (method n : ℕ) → method ≡ 4 → 1 ≡ source_count method n
-one_source method n e = rw e
+module _ (h : Header) (method : Code.Method) (is : number_of method ≡ h.method) where
+  known : known_method h.method ≡ true
+  known = ap known_method (sym is) ∙ known_number method
 
-pub every_source : (method n : ℕ) → (method ≡ 4 → ⊥) → n ≡ source_count method n
-every_source method n f =
-    by_test (eqb method 1) (λ e. rw e)
-    (λ a. by_test (eqb method 2) (λ e. rw (a, e))
-    (λ b. by_test (eqb method 3) (λ e. rw (a, b, e)) (λ c. by_test (eqb method 5) (λ e. rw (a, b, c, ne_eqb method 4 f, e)) (λ e. rw (a, b, c, ne_eqb method 4 f, e)))))
-
--- k is what `known` answers of the method.
-module _ (h : Header) (k : Bool) (is : k ≡ known_method h.method) where
-  pub method_unknown : not k ≡ true → some Method ≡ header_refusal h
-  unfolding header_refusal
-  method_unknown e = rw (← is, not-true k e)
-
-  pub method_known : not k ≡ false → known_method h.method ≡ true
-  method_known e = rw (← is, not-false k e)
-
-module _ (h : Header) (known : known_method h.method ≡ true) where
   pub vertices_low : h.vertices < 1 → some Vertices ≡ header_refusal h
   unfolding header_refusal
   vertices_low a = simp (known, le-ltb 0 h.vertices (omega arith))
@@ -57,19 +45,23 @@ module _ (h : Header) (known : known_method h.method ≡ true) where
   unfolding header_refusal
   vertices_high a = simp (known, lt-ltb 0 h.vertices (omega arith), lt-leb h.vertices 32 a)
 
-  module _ (v₁ : 1 ≤ h.vertices) (v₂ : h.vertices ≤ 32) where
-    pub edges_many : most_edges h.method < h.edges → some Edges ≡ header_refusal h
+  pub vertices_wrong : (h.vertices < 1) ⊎ ((1 ≤ h.vertices) × (32 < h.vertices)) → some Vertices ≡ header_refusal h
+  vertices_wrong (inl low) = vertices_low low
+  vertices_wrong (inr high) = vertices_high high.1
+
+  module _ (v₁ : 1 ≤ h.vertices) (v₂ : h.vertices ≤ 32) (most : ℕ) (most_is : most ≡ most_edges (number_of method)) where
+    pub edges_many : most < h.edges → some Edges ≡ header_refusal h
     unfolding header_refusal
     edges_many a =
         simp (
           known,
           lt-ltb 0 h.vertices v₁,
           le-leb h.vertices 32 v₂,
-          lt-leb h.edges (most_edges h.method) a,
+          lt-leb h.edges (most_edges h.method) (rw (← is, ← most_is) a),
         )
 
     -- count is what `source_count` answers.
-    module _ (e : h.edges ≤ most_edges h.method) (count : ℕ) (count_is : count ≡ source_count h.method h.vertices) where
+    module _ (e : h.edges ≤ most) (count : ℕ) (count_is : count ≡ source_count (number_of method) h.vertices) where
       by_source : need (ltb h.source count) Source none ≡ header_refusal h
       unfolding header_refusal
       by_source =
@@ -77,8 +69,9 @@ module _ (h : Header) (known : known_method h.method ≡ true) where
             known,
             lt-ltb 0 h.vertices v₁,
             le-leb h.vertices 32 v₂,
-            le-leb h.edges (most_edges h.method) e,
+            le-leb h.edges (most_edges h.method) (rw (← is, ← most_is) e),
             count_is,
+            is,
           )
 
       pub source_high : count ≤ h.source → some Source ≡ header_refusal h

@@ -1,3 +1,4 @@
 pub mod Facts
 pub mod Headers
 pub mod Figured
+pub mod Methods

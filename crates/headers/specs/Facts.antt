@@ -2,7 +2,7 @@
 -- Rests on the definitions alone.
 use Rattle.std.specs.Prelude.{◌≡◌, ℕ}
 use Rattle.std.proofs.Math.Option.{Option, none, some}
-use Rattle.answers.specs.declared.Refusal.{Refusal}
+use Rattle.answers.specs.Refusal.{Refusal}
 use Rattle.plans.specs.Plan.{header_of}
 use Rattle.headers.specs.Refusal.{header_refusal}
 

@@ -1,22 +1,17 @@
 -- What the code tells of a header, by the definitions of plans. Rests on those.
-use Rattle.std.specs.Prelude.{◌≡◌, ℕ}
+use Rattle.std.specs.Prelude.{◌≡◌, ℕ, Some, None}
+use Rattle.std.specs.declared.option.Option as Code
 use Rattle.std.proofs.Math.Option.{Option, none, some}
 use Rattle.plans.specs.declared.Header.{Header}
 use Rattle.plans.specs.declared.Span.{Span}
 use Rattle.plans.specs.Plan.{word_count_of, cells_of, length_of, verdict_cell, Kind, distances, parents, route, by_kind, results_of}
-use Rattle.headers.specs.declared.VerdictCell.{VerdictCell}
-use Rattle.headers.specs.declared.VerdictCell.TheVariants.{At, Nothing}
+use Rattle.answers.specs.Refusal.{option_of}
 use Rattle.headers.specs.declared.Figures.{Figures}
 
--- ---- the verdict's cell, in code and in specs
-
-abbrev pub cell_in : VerdictCell → Option ℕ
-cell_in (At cell) = some cell
-cell_in Nothing = none
-
-abbrev pub in_code : Option ℕ → VerdictCell
-in_code (some cell) = At cell
-in_code none = Nothing
+-- An optional value as the code has it.
+abbrev pub in_code : Option ℕ → Code.Option ℕ
+in_code (some cell) = Some cell
+in_code none = None
 
 -- ---- the figures of a header
 
@@ -41,5 +36,5 @@ pub record Figured (h : Header) (f : Figures) : Type 0 where
   pub words_are : f.words ≡ word_count_of h
   pub cells_are : f.cells ≡ cells_of h
   pub length_is : f.length ≡ length_of h
-  pub verdict_is : cell_in f.verdict ≡ verdict_cell h
+  pub verdict_is : option_of f.verdict ≡ verdict_cell h
   pub results_are : (k : Kind) → span_in f k ≡ results_of h k

@@ -1,3 +1,4 @@
+pub mod Method
 pub mod Figures
 pub mod Refusal
 pub mod Facts

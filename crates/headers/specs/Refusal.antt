@@ -1,7 +1,7 @@
 -- Which refusal a header meets first (document 01, "Who caused it"). Rests on the refusals and the limits.
 use Rattle.std.specs.Prelude.{Bool, ◌&&◌, List, [], ◌∷◌, ltb, leb}
 use Rattle.std.proofs.Math.Option.{Option}
-use Rattle.answers.specs.declared.Refusal.{Refusal}
+use Rattle.answers.specs.Refusal.{Refusal}
 use Rattle.answers.specs.Refusal.{Method, Vertices, Edges, Source, first_of}
 use Rattle.plans.specs.declared.Header.{Header}
 use Rattle.plans.specs.Limits.{known_method, most_vertices, most_edges, source_count}

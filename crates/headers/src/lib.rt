@@ -2,37 +2,61 @@
 // Rests on answers, ops and plans.
 #![tactic(auto)]
 
+mod accepted;
 mod method1;
 mod method2;
 mod method3;
 mod method4;
 mod method5;
 
-ghost use Rattle.std.specs.Prelude.{◌≡◌};
-ghost use Rattle.plans.specs.Limits.{known_method, most_edges, source_count};
-ghost use Rattle.plans.specs.Plan.{header_of, Accepted};
+ghost use Rattle.std.specs.Prelude.{◌≡◌, IfOk};
+ghost use Rattle.plans.specs.Limits.{most_edges, source_count};
+ghost use Rattle.plans.specs.Plan.{header_of};
 ghost use Rattle.answers.specs.Refusal.{found};
+ghost use Rattle.headers.specs.Method.{number_of, Numbered};
 ghost use Rattle.headers.specs.Refusal.{header_refusal};
 ghost use Rattle.headers.specs.Figures.{Figured};
 
-use answers::Checked;
+pub use accepted::AcceptedHeader;
+use answers::Refusal;
 use plans::{Header, Span};
 
-// Where the verdict is.
+// The methods (document 01, and asks 3, 5 and 8): what a header's method number stands for. What differs by method is a `match` on them, each arm a
+// function for headers of that method: a closure, a trait or a type for each would say the same five times over.
 #[derive(Clone, Copy)]
-pub enum VerdictCell {
-    At(usize),
-    Nothing,
+pub enum Method {
+    BellmanFord,
+    Dijkstra,
+    Jacobi,
+    FloydWarshall,
+    Routed,
+}
+
+impl TryFrom<u64> for Method {
+    type Error = Refusal;
+
+    ghost try_from_gives = { Numbered };
+
+    fn try_from(number: u64) -> Result<Self, Refusal> {
+        match number {
+            1 => Ok(Method::BellmanFord),
+            2 => Ok(Method::Dijkstra),
+            3 => Ok(Method::Jacobi),
+            4 => Ok(Method::FloydWarshall),
+            5 => Ok(Method::Routed),
+            _ => Err(Refusal::Method),
+        }
+    }
 }
 
 // What follows from a header: the words after it, the plan's cells and words (the header word among them), the cell that its last word opens,
-// and the cells that results are copied from.
+// where there is one, and the cells that results are copied from.
 #[derive(Clone, Copy)]
 pub struct Figures {
     pub words: usize,
     pub cells: usize,
     pub length: usize,
-    pub verdict: VerdictCell,
+    pub verdict: Option<usize>,
     pub distances: Span,
     pub parents: Span,
     pub route: Span,
@@ -54,71 +78,58 @@ pub fn read_header(word: u64) -> Header
     }
 }
 
-fn known(method: u64) -> bool
-    ensures { result ≡ known_method method }
+fn most_edges(method: Method) -> u64
+    ensures { result ≡ most_edges (number_of method) }
 {
     match method {
-        1 => true,
-        2 => true,
-        3 => true,
-        4 => true,
-        5 => true,
-        _ => false,
-    }
-}
-
-fn most_edges(method: u64) -> u64
-    ensures { result ≡ most_edges method }
-{
-    match method {
-        1 => plans::MOST_EDGES,
-        3 => plans::MOST_EDGES,
-        4 => plans::MOST_EDGES,
-        5 => plans::MOST_EDGES,
-        _ => 0,
+        Method::Dijkstra => 0,
+        _ => plans::MOST_EDGES,
     }
 }
 
 // How many sources a header may name, of n vertices; method 4 has them all, and names 0.
-fn source_count(method: u64, n: u64) -> u64
-    ensures { result ≡ source_count method n }
+fn source_count(method: Method, n: u64) -> u64
+    ensures { result ≡ source_count (number_of method) n }
 {
-    if method == 4 { 1 } else { n }
+    match method {
+        Method::FloydWarshall => 1,
+        _ => n,
+    }
 }
 
-// Refusals 1 to 4.
-pub fn check_header(h: Header) -> Checked
-    ensures { found result ≡ header_refusal h }
+// Refusals 1 to 4, or the header as one that is accepted.
+pub fn check_header(h: Header) -> Result<AcceptedHeader, Refusal>
+    ensures { (found result ≡ header_refusal h) × IfOk result (λ accepted. accepted.header ≡ h) }
 {
-    if !known(h.method) {
-        return Checked::Refused(answers::METHOD);
+    let method = Method::try_from(h.method)?;
+    if h.vertices < 1 || plans::MOST_VERTICES < h.vertices {
+        return Err(Refusal::Vertices);
     }
-    if h.vertices < 1 {
-        return Checked::Refused(answers::VERTICES);
+    if most_edges(method) < h.edges {
+        return Err(Refusal::Edges);
     }
-    if plans::MOST_VERTICES < h.vertices {
-        return Checked::Refused(answers::VERTICES);
+    if source_count(method, h.vertices) <= h.source {
+        return Err(Refusal::Source);
     }
-    if most_edges(h.method) < h.edges {
-        return Checked::Refused(answers::EDGES);
-    }
-    if source_count(h.method, h.vertices) <= h.source {
-        return Checked::Refused(answers::SOURCE);
-    }
-    Checked::Accepted
+    Ok(AcceptedHeader { header: h })
+}
+
+// An accepted header's method is one of the five.
+pub fn method_of(h: AcceptedHeader) -> Method
+    ensures { number_of result ≡ h.header.method }
+{
+    Method::try_from(h.header.method).unwrap()
 }
 
 // Of the header's method.
-pub fn figures_of(h: Header) -> Figures
-    requires { Accepted h }
-    ensures { Figured h result }
+pub fn figures_of(h: AcceptedHeader) -> Figures
+    ensures { Figured h.header result }
 {
-    let method = h.method;
-    match method {
-        1 => method1::figures(h),
-        2 => method2::figures(h),
-        3 => method3::figures(h),
-        4 => method4::figures(h),
-        _ => method5::figures(h),
+    match method_of(h) {
+        Method::BellmanFord => method1::figures(h),
+        Method::Dijkstra => method2::figures(h),
+        Method::Jacobi => method3::figures(h),
+        Method::FloydWarshall => method4::figures(h),
+        Method::Routed => method5::figures(h),
     }
 }

@@ -1,5 +1,5 @@
 // A request's words from the bytes that a program read: eight bytes a word, most significant first.
-// Rests on fields, and on printing for what bytes make.
+// Rests on printing for what bytes make.
 #![tactic(auto)]
 
 ghost use Rattle.std.specs.Prelude.{◌≡◌, ◌+◌, ◌≤◌, length};
@@ -14,23 +14,20 @@ fn join_bytes(bytes: &[u8], at: usize) -> u64
     requires { at + 8 ≤ length bytes.now }
     ensures { result ≡ joined_from bytes.now at 8 }
 {
-    let mut word: u64 = 0;
-    let mut i: usize = 0;
-    while i < 8 {
-        word = fields::join(word, bytes[at + i] as u64, 8);
-        i += 1;
-    }
-    word
+    let mut eight = [0u8; 8];
+    eight.copy_from_slice(&bytes[at..at + 8]);
+    u64::from_be_bytes(eight)
 }
 
 // How many whole words bytes of this number have, of those that are read.
 fn whole_count(size: usize) -> usize
     ensures { result ≡ whole_count size }
 {
-    if size / 8 < WORDS { size / 8 } else { WORDS }
+    (size / 8).min(WORDS)
 }
 
 // How many words they count as.
+#[tactic(auto, unfolding(printing::specs::Bytes::handed_over))]
 pub fn handed_over(size: usize) -> usize
     ensures { result ≡ handed_over size }
 {
@@ -50,9 +47,7 @@ pub fn to_words(bytes: &[u8], words: &mut [u64])
     ensures { words.new ≡ overwritten (whole_words bytes.now) words.old }
 {
     let count = whole_count(bytes.len());
-    let mut k: usize = 0;
-    while k < count {
-        words[k] = join_bytes(bytes, 8 * k);
-        k += 1;
+    for (k, word) in words[..count].iter_mut().enumerate() {
+        *word = join_bytes(bytes, 8 * k);
     }
 }

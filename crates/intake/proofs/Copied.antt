@@ -2,14 +2,15 @@
 -- Rests on blocks and on lists' Sets and Filled.
 use mathlib.Core.Path.{◌≡◌, refl, sym, ap, ◌∙◌}
 use mathlib.Core.Logic.{⊎_elim}
-use mathlib.Core.List.{List, [], ◌∷◌, ◌++◌}
+use mathlib.Core.List.{List, [], ◌∷◌, ◌++◌, append-nil}
 use Prim.Native.Nat.{ℕ, zero, suc, ◌+◌, ◌-◌, ◌^◌, ◌<◌, ◌≤◌}
 use native.Mathlib.Nat.{eq-or-lt_of_le, eq-zero-or-pos, le_of_suc-le-suc, not-suc-le-zero}
 use native.Mathlib.Numerals.{add-one}
 use native.Mathlib.Omega.{arith}
 use lib.IntN.{ℤ, pos}
-use lib.ListN.{length, set, get_or, drop, length-append, length-drop, get_or-append}
-use lib.Seq.{sets, length-sets, drop_at, get_or-append-add, get_or-drop, get_or-set_same, get_or-set_other}
+use lib.ListN.{length, set, get_or, take, drop, length-append, length-drop, get_or-append, drop_of_length-le}
+use Rattle.std.proofs.lemmas.List.{get_or-take}
+use lib.Seq.{sets, length-sets, length-take-le, drop_at, ext_get_or, get_or-append-add, get_or-drop, get_or-set_same, get_or-set_other}
 use lib.Signed.{mag}
 use Rattle.lists.proofs.Sets.{sets_append}
 use Rattle.lists.proofs.Filled.{Filling, again, done}
@@ -38,6 +39,16 @@ module _ (count : ℕ) (f : ℕ → ℤ) where
           done ones buffer now k (omega (arith, ones_length f count)) (omega (arith, ones_length f count)) fills
           ∙ ap (λ (j : ℕ). ones ++ drop j buffer) (ones_length f count)
 
+    -- The loop goes over the first `count` places alone.
+    pub ones_written : (first : List ℤ) (k : ℕ) → count ≤ length buffer → Filling ones (take count buffer) first k
+        → length (take count buffer) ≤ k → first ++ drop count buffer ≡ copied count f buffer
+    unfolding copied
+    ones_written first k l fills g =
+        let long : length (take count buffer) ≡ count = length-take-le count buffer l in
+        let whole = done ones (take count buffer) first k (omega (arith, ones_length f count)) (omega (arith, ones_length f count)) fills in
+        let none : drop (length ones) (take count buffer) ≡ [] = drop_of_length-le (take count buffer) (omega (arith, ones_length f count)) in
+        ap (λ (xs : List ℤ). xs ++ drop count buffer) (whole ∙ ap (λ (xs : List ℤ). ones ++ xs) none ∙ append-nil ones)
+
     -- ---- what each place then holds
 
     pub copied_long : count ≤ length buffer → length (copied count f buffer) ≡ length buffer
@@ -62,6 +73,15 @@ module _ (count : ℕ) (f : ℕ → ℤ) where
         ∙ get_or-append-add ones (drop count buffer) (k - count) (pos 0)
         ∙ get_or-drop count buffer (k - count) (pos 0)
         ∙ ap (λ (j : ℕ). get_or buffer j (pos 0)) d
+
+-- What is copied from a row of places is that part of the list.
+pub part_copied : (count first : ℕ) (xs : List ℤ) → first + count ≤ length xs
+    → take count (drop first xs) ≡ ones count (λ i. get_or xs (first + i) (pos 0))
+part_copied count first xs l =
+    let f = λ (i : ℕ). get_or xs (first + i) (pos 0) in
+    let long : length (take count (drop first xs)) ≡ count = length-take-le count (drop first xs) (omega (arith, length-drop first xs)) in
+    ext_get_or (pos 0) _ _ (long ∙ sym (ones_length f count))
+    (λ k i. get_or-take count (drop first xs) k (pos 0) (omega arith) ∙ get_or-drop first xs k (pos 0) ∙ sym (ones_at f count (pos 0) k (omega arith)))
 
 -- Where two agree on a place, it holds the same.
 pub copied_same : (count : ℕ) (f g : ℕ → ℤ) (buffer : List ℤ) (k : ℕ) → f k ≡ g k

@@ -12,7 +12,7 @@ use lib.Arith.{digits_lt}
 use lib.Dec.{leb, ltb}
 use lib.IntN.{ℤ, pos}
 use lib.ListN.{length, get_or, drop, replicate, drop_of_length-le}
-use lib.Seq.{sets, length-sets, drop-cons, get_or-drop, ext_get_or}
+use lib.Seq.{sets, length-sets, drop-cons, ext_get_or}
 use borrow.Author.Tests.{lt-ltb, leb-true, leb-false, ltb-true, ltb-false}
 use Rattle.fields.specs.Fields.{signed_of}
 use Rattle.machine.specs.Effect.{cell_at}
@@ -66,17 +66,13 @@ module _ (k : ℕ) where
 
 -- ---- a strip's numbers
 
--- All of them are laid; the loop reads the request's words, of which the header is the first.
-pub strip_done : (r : Strip) (request : List ℕ) (cells₀ cells : List ℤ) (i : ℕ) → i ≤ r.count → r.count ≤ i
-    → cells ≡ sets cells₀ r.at (ones i (λ j. part_of r.part (get_or request (r.word + 1 + j) 0)))
-    → cells ≡ sets cells₀ r.at (strip_numbers r (drop 1 request))
+-- All of them are laid.
+pub strip_done : (r : Strip) (words : List ℕ) (cells₀ cells : List ℤ) (i : ℕ) → i ≤ r.count → r.count ≤ i
+    → cells ≡ sets cells₀ r.at (ones i (λ j. part_of r.part (get_or words (r.word + j) 0)))
+    → cells ≡ sets cells₀ r.at (strip_numbers r words)
 unfolding laid
-strip_done r request cells₀ cells i g l e =
-    let n : i ≡ r.count = omega arith in
-    e ∙ (λ v. sets cells₀ r.at (ones (n v) (λ j. part_of r.part (word j v))))
-  where
-    word : (j : ℕ) → get_or request (r.word + 1 + j) 0 ≡ get_or (drop 1 request) (r.word + j) 0
-    word j = let o : r.word + 1 + j ≡ 1 + (r.word + j) = omega arith in rw (o, get_or-drop 1 request (r.word + j) 0)
+strip_done r words cells₀ cells i g l e =
+    let n : i ≡ r.count = omega arith in e ∙ ap (λ (k : ℕ). sets cells₀ r.at (ones k (λ j. part_of r.part (get_or words (r.word + j) 0)))) n
 
 -- ---- strips laid over cells that have their sources
 
@@ -186,6 +182,13 @@ pub record Begun (h : Header) (ws : List ℕ) (lent cleared : List ℤ) (rs : Li
   pub clear : cleared ≡ copied (cells_of h) (λ k. pos 0) lent
   pub strips : rs ≡ padded (strips_of h)
   pub many : length rs ≡ most_strips
+
+pub begin : {h : Header} {ws : List ℕ} {lent cleared : List ℤ} {rs : List Strip}
+    → Accepted h → (length ws ≡ word_count_of h) × (cells_of h ≤ length lent)
+    → (count : ℕ) → count ≡ cells_of h → cleared ≡ copied count (λ k. pos 0) lent
+    → rs ≡ padded (strips_of h) → length rs ≡ most_strips → Begun h ws lent cleared rs
+begin a r count count_is clear strips many =
+    record { accepted = a; counted = r.0; enough = r.1; clear = rw count_is at clear; strips = strips; many = many }
 
 -- Before strip k: laying what is left gives what laying all of them to the cleared cells gives.
 pub record Laying (ws : List ℕ) (rs : List Strip) (cleared cells : List ℤ) (k : ℕ) : Type 0 where

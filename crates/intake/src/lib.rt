@@ -1,13 +1,13 @@
-// Intake: the request's words laid into cells, by strips that follow from the header.
+// Intake: a request's words laid into cells, by strips that follow from the header.
 // Rests on headers, requests, plans and fields.
 #![tactic(auto)]
 
 ghost use Rattle.std.specs.Prelude.{◌≡◌, [], ◌∷◌, ◌++◌, ◌≤◌, pos, length, drop};
 ghost use Rattle.std.proofs.lemmas.List.Edits.{sets};
-ghost use Rattle.plans.specs.Plan.{Accepted, word_count_of, cells_of};
+ghost use Rattle.plans.specs.Plan.{word_count_of, cells_of};
 ghost use Rattle.intake.specs.Intake.{strip, edge_strips, strips_of, part_of, copied, starting_cells, strip_numbers, StripFits, padded};
 
-use plans::Header;
+use headers::{AcceptedHeader, Method};
 
 // A field of a word. Entry is method 2's weight, -1 as FAR; Whole, all 64 bits, is method 5's destination.
 #[derive(Clone, Copy)]
@@ -53,21 +53,19 @@ fn edge_strips(m: usize, to: usize, weight: usize, last: Strip) -> [Strip; 4]
     ]
 }
 
-// The strips of the header's method, then empty ones.
-fn strips_of(h: Header) -> [Strip; 4]
-    requires { Accepted h }
-    ensures { result ≡ padded (strips_of h) }
+// The strips of the header's method, then empty ones: an array, since nothing is allocated, and of one length, so that one loop lays them.
+fn strips_of(h: AcceptedHeader) -> [Strip; 4]
+    ensures { result ≡ padded (strips_of h.header) }
 {
-    let n = h.vertices as usize;
-    let m = h.edges as usize;
+    let n = h.header.vertices as usize;
+    let m = h.header.edges as usize;
     let empty = Strip::new(0, 0, 0, Part::From);
-    let method = h.method;
-    match method {
-        1 => edge_strips(m, m, 2 * m, empty),
-        2 => [Strip::new(0, n * n, 0, Part::Entry), empty, empty, empty],
-        3 => edge_strips(m, m + 1, 2 * m + 1, empty),
-        4 => edge_strips(m, m, 2 * m, empty),
-        _ => edge_strips(
+    match headers::method_of(h) {
+        Method::BellmanFord => edge_strips(m, m, 2 * m, empty),
+        Method::Dijkstra => [Strip::new(0, n * n, 0, Part::Entry), empty, empty, empty],
+        Method::Jacobi => edge_strips(m, m + 1, 2 * m + 1, empty),
+        Method::FloydWarshall => edge_strips(m, m, 2 * m, empty),
+        Method::Routed => edge_strips(
             m,
             m,
             2 * m,
@@ -91,24 +89,17 @@ fn part_of(part: Part, word: u64) -> i64
                 value
             }
         }
-        Part::Whole => fields::signed(word, 64),
+        Part::Whole => word.cast_signed(),
     }
 }
 
-// A strip laid; the request's first word is the header.
-fn lay_strip(strip: Strip, request: &[u64], cells: &mut [i64])
-    requires { StripFits (length (drop 1 request.now)) (length cells.old) strip }
-    ensures { cells.new ≡ sets cells.old strip.at (strip_numbers strip (drop 1 request.now)) }
+// A strip laid, from the words after the header.
+fn lay_strip(strip: Strip, words: &[u64], cells: &mut [i64])
+    requires { StripFits (length words.now) (length cells.old) strip }
+    ensures { cells.new ≡ sets cells.old strip.at (strip_numbers strip words.now) }
 {
-    let at = strip.at;
-    let count = strip.count;
-    let first = strip.word + 1;
-    let part = strip.part;
-    let mut i: usize = 0;
-    while i < count {
-        let value = part_of(part, request[first + i]);
-        cells[at + i] = value;
-        i += 1;
+    for i in 0..strip.count {
+        cells[strip.at + i] = part_of(strip.part, words[strip.word + i]);
     }
 }
 
@@ -117,24 +108,31 @@ fn clear(count: usize, cells: &mut [i64])
     requires { count ≤ length cells.old }
     ensures { cells.new ≡ copied count (λ k. pos 0) cells.old }
 {
-    let mut k: usize = 0;
-    while k < count {
-        cells[k] = 0;
-        k += 1;
+    for cell in &mut cells[..count] {
+        *cell = 0;
     }
 }
 
-// The needed cells laid; the others stay.
-pub fn lay(h: Header, request: &[u64], cells: &mut [i64])
-    requires { Accepted h × (length (drop 1 request.now) ≡ word_count_of h) × (cells_of h ≤ length cells.old) }
-    ensures { cells.new ≡ starting_cells h (drop 1 request.now) cells.old }
+// The needed cells laid, from the words after the header; the others stay.
+fn lay_words(h: AcceptedHeader, words: &[u64], cells: &mut [i64])
+    requires { (length words.now ≡ word_count_of h.header) × (cells_of h.header ≤ length cells.old) }
+    ensures { cells.new ≡ starting_cells h.header words.now cells.old }
 {
     let f = headers::figures_of(h);
     clear(f.cells, cells);
     let strips = strips_of(h);
-    let mut k: usize = 0;
-    while k < 4 {
-        lay_strip(strips[k], request, cells);
-        k += 1;
+    for strip in &strips {
+        lay_strip(*strip, words, cells);
+    }
+}
+
+// The same from a request.
+pub fn lay(h: AcceptedHeader, request: &[u64], cells: &mut [i64])
+    requires { (length (drop 1 request.now) ≡ word_count_of h.header) × (cells_of h.header ≤ length cells.old) }
+    ensures { cells.new ≡ starting_cells h.header (drop 1 request.now) cells.old }
+{
+    match request {
+        [_, words @ ..] => lay_words(h, words, cells),
+        [] => lay_words(h, &[], cells),
     }
 }

@@ -10,9 +10,8 @@ use native.Mathlib.Omega.{arith}
 use lib.Dec.{leb, le→leb}
 use lib.ListN.{length, get_or}
 use borrow.Author.Tests.{eq-eqb}
-use Rattle.answers.specs.declared.Refusal.{Refusal}
-use Rattle.answers.specs.declared.Checked.{Checked}
-use Rattle.answers.specs.Refusal.{Method, first_of, found, or_else}
+use Rattle.answers.specs.Refusal.{Refusal}
+use Rattle.answers.specs.Refusal.{Method, first_of, or_else}
 use Rattle.answers.specs.Told.{Told, refused}
 use Rattle.answers.proofs.Unmet.{first_none}
 use Rattle.plans.specs.declared.Header.{Header}
@@ -39,14 +38,12 @@ unfolding sizes_told
 asked [] n = absurd (n refl)
 asked (w ∷ rest) n = refl
 
--- s is what the check of the header answers.
-module _ (header : List ℕ) (some_word : length header ≡ 0 → ⊥) (h : Header) (is : h ≡ header_in header)
-    (s : Checked) (checked : found s ≡ header_refusal h) where
-  pub header_refused : (r : Refusal) → s ≡ Checked.Refused r → refused r ≡ sizes_told header
-  header_refused r e = rw (asked header some_word, ← is, ← checked, e)
+module _ (header : List ℕ) (some_word : length header ≡ 0 → ⊥) (h : Header) (is : h ≡ header_in header) where
+  pub header_refused : (r : Refusal) → some r ≡ header_refusal h → refused r ≡ sizes_told header
+  header_refused r e = rw (asked header some_word, ← is, ← e)
 
-  pub header_asks : (l : Lengths) → s ≡ Checked.Accepted → l ≡ asked_of h → asking l ≡ sizes_told header
-  header_asks l e a = rw (asked header some_word, ← is, ← checked, e, a)
+  pub header_asks : none ≡ header_refusal h → (l : Lengths) → l ≡ asked_of h → asking l ≡ sizes_told header
+  header_asks e l a = rw (asked header some_word, ← is, ← e, a)
 
 -- ---- what is told is what a request needs
 

@@ -14,7 +14,7 @@ use lib.Signed.{le_z, ◌≤ℤ◌, le_z_yes}
 use mir.Facts.{and_yes, yes_and}
 use borrow.Author.Tests.{eq-eqb, eqb-true, eqb-false}
 use Rattle.lists.proofs.Test.{by_test}
-use Rattle.answers.specs.declared.Refusal.{Refusal}
+use Rattle.answers.specs.Refusal.{Refusal}
 use Rattle.answers.specs.Refusal.{plain, placed, or_else}
 use Rattle.answers.proofs.Unmet.{first_append}
 use Rattle.plans.specs.declared.Header.{Header}

@@ -8,7 +8,7 @@ use mathlib.Core.Option.{Option, none, some, some-ne-none, some-injective}
 use Prim.Native.Nat.{ℕ, zero, suc, ◌+◌, ◌<◌, ◌≤◌}
 use native.Mathlib.Omega.{arith}
 use lib.ListN.{length, get_or}
-use Rattle.answers.specs.declared.Refusal.{Refusal}
+use Rattle.answers.specs.Refusal.{Refusal}
 use Rattle.answers.specs.Refusal.{plain, placed, Method, or_else}
 use Rattle.answers.proofs.Unmet.{or_else_none, or_else_assoc}
 use Rattle.answers.proofs.Meets.{Meets}

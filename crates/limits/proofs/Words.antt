@@ -4,19 +4,17 @@ use mathlib.Core.Path.{◌≡◌, refl, sym, ◌∙◌}
 use mathlib.Core.Bool.{Bool, true, false, not}
 use mathlib.Core.List.{List, []}
 use mathlib.Core.Option.{none, some}
-use Prim.Native.Nat.{ℕ, suc, ◌+◌, ◌-◌, ◌*◌, ◌^◌, ◌<◌, ◌≤◌}
-use native.Mathlib.Omega.{arith}
+use Rattle.std.specs.Prelude.{Ok, Err}
+use Prim.Native.Nat.{ℕ, ◌+◌, ◌*◌, ◌^◌, ◌<◌, ◌≤◌}
+use native.Mathlib.Numerals.{add-one}
 use lib.Dec.{ltb, leb}
 use lib.IntN.{ℤ, pos}
 use lib.ListN.{length, get_or, drop, drop_of_length-le}
-use lib.Seq.{get_or-drop}
 use lib.Signed.{lt_z, le_z, mag}
 use borrow.Author.Tests.{lt-ltb, le-ltb, le-leb, lt-leb, eq-eqb, ne_eqb}
 use Rattle.lists.proofs.Slices.{next}
-use Rattle.answers.specs.declared.Refusal.{Refusal}
-use Rattle.answers.specs.declared.Checked.{Checked}
-use Rattle.answers.specs.declared.Checked.TheVariants.{Accepted, Refused}
-use Rattle.answers.specs.Refusal.{SpareBits, Weight, FromVertex, ToVertex, Unsorted, Destination, need, found, or_else}
+use Rattle.answers.specs.declared.Refusal as Code
+use Rattle.answers.specs.Refusal.{SpareBits, Weight, FromVertex, ToVertex, Unsorted, Destination, rule_of, Checked, need, found, or_else}
 use Rattle.answers.proofs.Unmet.{first_append}
 use Rattle.machine.proofs.Tested.{back, kept, not_less}
 use Rattle.plans.specs.declared.Header.{Header}
@@ -28,7 +26,7 @@ use Rattle.limits.specs.Refusal.{in_range, edge_tests, edge_refusal, order_tests
 
 -- ---- the weight
 
--- v is the word's weight, as it comes from its function, and r the refusal.
+-- v is the word's weight, as it comes from its function.
 module _ (least : ℤ) (place w : ℕ) (few : mag least < 2 ^ 63) (v : ℤ) (small : mag v < 2 ^ 63) (is : v ≡ weight_of w) where
   low : (t : Bool) → lt_z (back v) (back least) ≡ t → le_z least (weight_of w) ≡ not t
   low t e = not_less (weight_of w) least t (rw (kept v small, kept least few, is) at e)
@@ -36,14 +34,14 @@ module _ (least : ℤ) (place w : ℕ) (few : mag least < 2 ^ 63) (v : ℤ) (sma
   high : (t : Bool) → lt_z (pos most_weight) (back v) ≡ t → le_z (weight_of w) (pos most_weight) ≡ not t
   high t e = not_less (pos most_weight) (weight_of w) t (rw (kept v small, is) at e)
 
-  pub weight_low : (r : Refusal) → r ≡ Weight place → lt_z (back v) (back least) ≡ true → some r ≡ need (in_range least w) (Weight place) none
+  pub weight_low : lt_z (back v) (back least) ≡ true → some (Weight place) ≡ need (in_range least w) (Weight place) none
   unfolding in_range
-  weight_low r told e = rw (low true e, told)
+  weight_low e = rw (low true e)
 
   module _ (fine : lt_z (back v) (back least) ≡ false) where
-    pub weight_high : (r : Refusal) → r ≡ Weight place → lt_z (pos most_weight) (back v) ≡ true → some r ≡ need (in_range least w) (Weight place) none
+    pub weight_high : lt_z (pos most_weight) (back v) ≡ true → some (Weight place) ≡ need (in_range least w) (Weight place) none
     unfolding in_range
-    weight_high r told e = rw (low false fine, high true e, told)
+    weight_high e = rw (low false fine, high true e)
 
     pub weight_good : lt_z (pos most_weight) (back v) ≡ false → none ≡ need (in_range least w) (Weight place) none
     unfolding in_range
@@ -53,19 +51,19 @@ module _ (least : ℤ) (place w : ℕ) (few : mag least < 2 ^ 63) (v : ℤ) (sma
 
 -- x, y and z are fields of an edge's word, as they come from their function, and s is what the check of its weight answers.
 module _ (n place w x : ℕ) (spare : x ≡ spare_of_edge w) where
-  pub spare_edge : (r : Refusal) → r ≡ SpareBits place → (x ≡ 0 → ⊥) → some r ≡ edge_refusal n place w
+  pub spare_edge : (x ≡ 0 → ⊥) → some (SpareBits place) ≡ edge_refusal n place w
   unfolding edge_refusal
-  spare_edge r told e = rw (← spare, ne_eqb x 0 e, told)
+  spare_edge e = rw (← spare, ne_eqb x 0 e)
 
   module _ (no_spare : x ≡ 0) (y : ℕ) (from : y ≡ from_field w) where
-    pub from_high : (r : Refusal) → r ≡ FromVertex place → n ≤ y → some r ≡ edge_refusal n place w
+    pub from_high : n ≤ y → some (FromVertex place) ≡ edge_refusal n place w
     unfolding edge_refusal
-    from_high r told e = rw (← spare, eq-eqb x 0 no_spare, ← from, le-ltb y n e, told)
+    from_high e = rw (← spare, eq-eqb x 0 no_spare, ← from, le-ltb y n e)
 
     module _ (from_low : y < n) (z : ℕ) (to : z ≡ to_field w) where
-      pub to_high : (r : Refusal) → r ≡ ToVertex place → n ≤ z → some r ≡ edge_refusal n place w
+      pub to_high : n ≤ z → some (ToVertex place) ≡ edge_refusal n place w
       unfolding edge_refusal
-      to_high r told e = rw (← spare, eq-eqb x 0 no_spare, ← from, lt-ltb y n from_low, ← to, le-ltb z n e, told)
+      to_high e = rw (← spare, eq-eqb x 0 no_spare, ← from, lt-ltb y n from_low, ← to, le-ltb z n e)
 
       pub edge_by_weight : z < n → (s : Checked) → found s ≡ need (in_range least_weight w) (Weight place) none → found s ≡ edge_refusal n place w
       unfolding edge_refusal
@@ -78,21 +76,21 @@ module _ (n place before w : ℕ) (s : Checked) (edge : found s ≡ edge_refusal
   unfolding sorted_refusal edge_refusal
   edge_first = first_append (edge_tests n place w []) (order_tests place before w)
 
-  pub edge_bad : (r : Refusal) → s ≡ Refused r → some r ≡ sorted_refusal n place before w
+  pub edge_bad : (r : Code.Refusal) → s ≡ Err r → some (rule_of r) ≡ sorted_refusal n place before w
   edge_bad r e = rw (edge_first, ← edge, e)
 
-  module _ (fine : s ≡ Accepted) (x y : ℕ) (to : x ≡ to_field w) (to_before : y ≡ to_field before) where
-    pub out_of_order : (r : Refusal) → r ≡ Unsorted place → x < y → some r ≡ sorted_refusal n place before w
-    out_of_order r told l = rw (edge_first, ← edge, fine, ← to, ← to_before, lt-leb y x l, told)
+  module _ (fine : s ≡ Ok tt) (x y : ℕ) (to : x ≡ to_field w) (to_before : y ≡ to_field before) where
+    pub out_of_order : x < y → some (Unsorted place) ≡ sorted_refusal n place before w
+    out_of_order l = rw (edge_first, ← edge, fine, ← to, ← to_before, lt-leb y x l)
 
     pub in_place : y ≤ x → none ≡ sorted_refusal n place before w
     in_place l = rw (edge_first, ← edge, fine, ← to, ← to_before, le-leb y x l)
 
 -- x is an entry's spare bits.
 module _ (place w x : ℕ) (spare : x ≡ spare_of_entry w) where
-  pub spare_entry : (r : Refusal) → r ≡ SpareBits place → (x ≡ 0 → ⊥) → some r ≡ entry_refusal place w
+  pub spare_entry : (x ≡ 0 → ⊥) → some (SpareBits place) ≡ entry_refusal place w
   unfolding entry_refusal
-  spare_entry r told e = rw (← spare, ne_eqb x 0 e, told)
+  spare_entry e = rw (← spare, ne_eqb x 0 e)
 
   pub entry_by_weight : x ≡ 0 → (s : Checked) → found s ≡ need (in_range no_edge w) (Weight place) none → found s ≡ entry_refusal place w
   unfolding entry_refusal
@@ -140,48 +138,38 @@ module _ (h : Header) where
       (λ n m source a five ws. refl) (λ n source a five ws. refl) (λ n m source a five ws. refl) (λ n m a five ws. refl)
       (λ n m source a five ws. absurd (five refl)) h
 
-  module _ (request : List ℕ) (five : h.method ≡ 5) where
-    by_destination : need (ltb (get_or request (h.edges + 1) 0) h.vertices) Destination none ≡ last_refusal h (drop 1 request)
+  module _ (ws : List ℕ) (five : h.method ≡ 5) where
+    by_destination : need (ltb (get_or ws h.edges 0) h.vertices) Destination none ≡ last_refusal h ws
     unfolding last_refusal
-    by_destination =
-        let at : h.edges + 1 ≡ 1 + h.edges = omega arith in
-        rw (five, get_or-drop 1 request h.edges 0, at)
+    by_destination = rw five
 
-    pub destination_high : h.vertices ≤ get_or request (h.edges + 1) 0 → some Destination ≡ last_refusal h (drop 1 request)
-    destination_high l = rw (← by_destination, le-ltb (get_or request (h.edges + 1) 0) h.vertices l)
+    pub destination_high : h.vertices ≤ get_or ws h.edges 0 → some Destination ≡ last_refusal h ws
+    destination_high l = rw (← by_destination, le-ltb (get_or ws h.edges 0) h.vertices l)
 
-    pub destination_there : get_or request (h.edges + 1) 0 < h.vertices → none ≡ last_refusal h (drop 1 request)
-    destination_there l = rw (← by_destination, lt-ltb (get_or request (h.edges + 1) 0) h.vertices l)
+    pub destination_there : get_or ws h.edges 0 < h.vertices → none ≡ last_refusal h ws
+    destination_there l = rw (← by_destination, lt-ltb (get_or ws h.edges 0) h.vertices l)
 
 -- ---- the words of a request in their order
 
--- Before word k of the request, which is at place k - 1: what is left, after the word before it, meets the refusal that all of them meet.
-pub record Passed (h : Header) (request : List ℕ) (before k : ℕ) : Type 0 where
-  pub begun : 0 < k
-  pub within : k ≤ length request
-  pub rest : words_refusal h (k - 1) before (drop k request) ≡ words_refusal h 0 0 (drop 1 request)
+-- Before the word at a place: what is left, after the word before it, meets the refusal that all of them meet.
+abbrev pub Passed : (h : Header) (words : List ℕ) (before place : ℕ) → Type 0
+Passed h words before place = words_refusal h place before (drop place words) ≡ words_refusal h 0 0 words
 
-module _ (h : Header) (request : List ℕ) where
-  pub start : 0 < length request → Passed h request 0 1
-  start l = record { begun = omega arith; within = l; rest = refl }
-
-  module _ (before k : ℕ) (p : Passed h request before k) where
-    module _ (l : k < length request) where
-      first : words_refusal h 0 0 (drop 1 request)
-          ≡ or_else (word_refusal h (k - 1) before (get_or request k 0)) (words_refusal h (k + 1 - 1) (get_or request k 0) (drop (k + 1) request))
-      unfolding words_refusal
-      first =
-          let e : k + 1 - 1 ≡ suc (k - 1) = omega arith in
-          sym p.rest ∙ rw (next request k 0 l, e)
-
-      -- s is what the check of word k answers.
-      module _ (s : Checked) (is : found s ≡ word_refusal h (k - 1) before (get_or request k 0)) where
-        pub refused : (r : Refusal) → s ≡ Refused r → some r ≡ words_refusal h 0 0 (drop 1 request)
-        refused r e = rw (first, ← is, e)
-
-        pub again : s ≡ Accepted → Passed h request (get_or request k 0) (k + 1)
-        again e = record { begun = omega arith; within = omega arith; rest = rw (first, ← is, e) }
-
-    pub done : length request ≤ k → none ≡ words_refusal h 0 0 (drop 1 request)
+module _ (h : Header) (words : List ℕ) (before place : ℕ) (p : Passed h words before place) where
+  module _ (l : place < length words) where
+    first : words_refusal h 0 0 words
+        ≡ or_else (word_refusal h place before (get_or words place 0)) (words_refusal h (place + 1) (get_or words place 0) (drop (place + 1) words))
     unfolding words_refusal
-    done l = rw (drop_of_length-le request l) at p.rest
+    first = sym p ∙ rw (next words place 0 l, add-one place)
+
+    -- s is what the check of the word answers.
+    module _ (s : Checked) (is : found s ≡ word_refusal h place before (get_or words place 0)) where
+      pub refused : (r : Code.Refusal) → s ≡ Err r → some (rule_of r) ≡ words_refusal h 0 0 words
+      refused r e = rw (first, ← is, e)
+
+      pub again : s ≡ Ok tt → Passed h words (get_or words place 0) (place + 1)
+      again e = rw (first, ← is, e)
+
+  pub done : length words ≤ place → none ≡ words_refusal h 0 0 words
+  unfolding words_refusal
+  done l = rw (drop_of_length-le words l) at p

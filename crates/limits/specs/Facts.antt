@@ -2,7 +2,7 @@
 -- at their ends and one past them, and which of several refusals comes first. Rests on the definitions alone.
 use Rattle.std.specs.Prelude.{◌≡◌, List, [], ◌∷◌, ℕ}
 use Rattle.std.proofs.Math.Option.{Option, none, some}
-use Rattle.answers.specs.declared.Refusal.{Refusal}
+use Rattle.answers.specs.Refusal.{Refusal}
 use Rattle.answers.specs.Told.{Told, refused}
 use Rattle.answers.specs.Facts.{by_number, at_place}
 use Rattle.plans.specs.Plan.{header_of}

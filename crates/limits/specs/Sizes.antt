@@ -1,7 +1,7 @@
 -- What a header asks a caller to lend, and which refusal a header meets that asks for nothing. Rests on headers, plans and refusals.
 use Rattle.std.specs.Prelude.{List, [], ◌∷◌, ℕ}
 use Rattle.std.proofs.Math.Option.{Option, none, some}
-use Rattle.answers.specs.declared.Refusal.{Refusal}
+use Rattle.answers.specs.Refusal.{Refusal}
 use Rattle.answers.specs.Refusal.{Method}
 use Rattle.answers.specs.Told.{Told, refused}
 use Rattle.plans.specs.declared.Header.{Header}

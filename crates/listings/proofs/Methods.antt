@@ -1,11 +1,10 @@
 -- The lines of a method, as the code writes them: in method 4 those of a table, in every other method the one row of yards, in method 5 a route.
 -- Rests on demands' Sources, and plans' Blocks and Headers.
-use mathlib.Core.Path.{◌≡◌, refl}
+use mathlib.Core.Path.{◌≡◌, refl, sym, ap, ◌∙◌}
 use mathlib.Core.Logic.{◌≢◌}
-use mathlib.Core.Bool.{Bool, true, false, cond}
+use mathlib.Core.Bool.{Bool, true, false, cond, true≢false}
 use mathlib.Core.List.{List, []}
-use Prim.Native.Nat.{ℕ, ◌+◌, ◌*◌, ◌<◌, ◌≤◌}
-use native.Mathlib.Nat.{add-mul, one-mul, mul-le-mul}
+use Prim.Native.Nat.{ℕ, ◌+◌, ◌*◌}
 use native.Mathlib.Omega.{arith}
 use borrow.Author.Tests.{ne_eqb}
 use lib.Dec.{eqb}
@@ -13,6 +12,7 @@ use lib.IntN.{ℤ, pos}
 use lib.ListN.{get_or}
 use Rattle.plans.specs.declared.Header.{Header}
 use Rattle.plans.specs.Blocks.{flat}
+use Rattle.plans.specs.Limits.{known_method}
 use Rattle.plans.specs.Plan.{Accepted}
 use Rattle.plans.proofs.Blocks.{flat_same}
 use Rattle.plans.proofs.Headers.{each_method}
@@ -20,10 +20,6 @@ use Rattle.demands.specs.Network.{sources_of}
 use Rattle.demands.proofs.Sources.{every, vertex_at, vertices_long}
 use Rattle.printing.specs.Texts.{yard_text, listed_text, line_text, rows_text, route_text}
 use Rattle.listings.specs.Rows.{yard_at, pair_at, pairs_text}
-
--- A row of a table lies in 1,024 places.
-pub row_inside : (r n : ℕ) → r < n → n ≤ 32 → r * n + n ≤ 1024
-row_inside r n l few = omega (arith, add-mul r 1 n, one-mul n, mul-le-mul {n₁ = r + 1} {m₁ = n} {n₂ = 32} {m₂ = 32} (omega arith) few)
 
 module _ (all : Bool) (ds ps : List ℤ) where
   pub pairs : (h : Header) → h.method ≡ 4 → rows_text all h ds ps ≡ flat h.vertices (pairs_text all h.vertices ds)
@@ -49,6 +45,10 @@ module _ (all : Bool) (ds ps : List ℤ) where
       (λ n m source a other. one_row n)
       (λ n m a other. absurd (other refl))
       (λ n m source a other. one_row n)
+
+-- A number that is no method's is another than one that is.
+pub unknown_other : (number known : ℕ) → known_method number ≡ false → known_method known ≡ true → number ≡ known → ⊥
+unknown_other number known unknown is same = true≢false (sym is ∙ ap known_method (sym same) ∙ unknown)
 
 -- Any other method has no route.
 pub no_route : (h : Header) → (h.method ≡ 5 → ⊥) → (rs : List ℤ) → route_text h rs ≡ []

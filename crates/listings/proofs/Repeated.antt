@@ -7,18 +7,17 @@ use native.Mathlib.Nat.{mul-suc}
 use native.Mathlib.Numerals.{add-one}
 use native.Mathlib.Omega.{arith}
 use Rattle.plans.specs.Blocks.{flat}
-use Rattle.text.specs.Text.{Put}
+use Rattle.text.specs.Appended.{Appended}
+use Rattle.text.specs.declared.Text.{Text}
 use Rattle.text.proofs.Written.{then, nothing, wider}
 
 -- At most `each` bytes for each.
 module _ (each : ℕ) (f : ℕ → List ℕ) where
-  pub start : (b : List ℕ) (at : ℕ) → Put (each * 0) (flat 0 f) b b at at
+  pub start : (a : Text) → Appended (each * 0) (flat 0 f) a a
   unfolding flat
-  start b at = wider (nothing b at) (each * 0) (omega arith)
+  start a = wider (nothing a) (each * 0) (omega arith)
 
-  pub again : {k : ℕ} {b₀ b b' : List ℕ} {at next next' : ℕ} → Put (each * k) (flat k f) b₀ b at next → Put each (f k) b b' next next'
-      → Put (each * (k + 1)) (flat (k + 1) f) b₀ b' at next'
+  pub again : {k : ℕ} {a b c : Text} → Appended (each * k) (flat k f) a b → Appended each (f k) b c → Appended (each * (k + 1)) (flat (k + 1) f) a c
   unfolding flat
-  again {k} {b₀} {b} {b'} {at} {next} {next'} p q =
-      subst (λ (j : ℕ). Put (each * j) (flat j f) b₀ b' at next') (sym (add-one k))
-      (wider (then p q) (each * suc k) (omega (arith, mul-suc each k)))
+  again {k} {a} {b} {c} p q =
+      subst (λ (j : ℕ). Appended (each * j) (flat j f) a c) (sym (add-one k)) (wider (then p q) (each * suc k) (omega (arith, mul-suc each k)))

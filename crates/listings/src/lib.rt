@@ -1,139 +1,101 @@
-// The lines of a run's results and of its log, in a lent buffer.
+// The lines of a run's results and of its log.
 // Rests on lines, printing and text.
 #![tactic(auto)]
 
 ghost use Rattle.std.specs.Prelude.{◌≡◌, ◌+◌, ◌*◌, ◌<◌, ◌≤◌, length};
-ghost use Rattle.text.specs.Text.{Put};
+ghost use Rattle.text.specs.Appended.{Room, Appended};
 ghost use Rattle.plans.specs.Blocks.{flat};
-ghost use Rattle.plans.specs.Plan.{Accepted};
 ghost use Rattle.printing.specs.Texts.{rows_text, steps_text, route_text, words_text};
 ghost use Rattle.listings.specs.Rows.{yard_at, pairs_text};
 
+use headers::{AcceptedHeader, Method};
 use plans::Header;
+use text::Text;
+
+// Five loops of one or two calls each: one loop for all would take a closure, and its contract one of that closure's for each text written.
 
 // A line for each of the first `count` vertices.
-fn put_yards(
-    buffer: &mut [u8],
-    at: usize,
-    all: bool,
-    count: usize,
-    distances: &[i64],
-    parents: &[i64],
-) -> usize
-    requires { (at + 65 * count ≤ length buffer.old) × (count ≤ length distances.now) × (count ≤ length parents.now) }
-    ensures { Put (65 * count) (flat count (yard_at all distances.now parents.now)) buffer.old buffer.new at result }
+fn put_yards(text: &mut Text<'_>, all: bool, count: usize, distances: &[i64], parents: &[i64])
+    requires { Room (65 * count) text.old × (count ≤ length distances.now) × (count ≤ length parents.now) }
+    ensures { Appended (65 * count) (flat count (yard_at all distances.now parents.now)) text.old text.new }
 {
-    let mut next = at;
-    let mut v: usize = 0;
-    while v < count {
-        next = lines::put_yard(buffer, next, all, v as u64, distances[v], parents[v]);
-        v += 1;
+    for v in 0..count {
+        lines::put_yard(text, all, v as u64, distances[v], parents[v]);
     }
-    next
 }
 
 // The row of one source in a table of `n` rows.
-fn put_pairs(
-    buffer: &mut [u8],
-    at: usize,
-    all: bool,
-    from: usize,
-    n: usize,
-    distances: &[i64],
-) -> usize
-    requires { (at + 65 * n ≤ length buffer.old) × (from * n + n ≤ length distances.now) }
-    ensures { Put (65 * n) (pairs_text all n distances.now from) buffer.old buffer.new at result }
+fn put_pairs(text: &mut Text<'_>, all: bool, from: usize, n: usize, distances: &[i64])
+    requires { Room (65 * n) text.old × (from * n + n ≤ length distances.now) }
+    ensures { Appended (65 * n) (pairs_text all n distances.now from) text.old text.new }
 {
     let first = from * n;
-    let mut next = at;
-    let mut to: usize = 0;
-    while to < n {
-        next = lines::put_pair(
-            buffer,
-            next,
-            all,
-            from as u64,
-            to as u64,
-            distances[first + to],
-        );
-        to += 1;
+    for to in 0..n {
+        lines::put_pair(text, all, from as u64, to as u64, distances[first + to]);
     }
-    next
 }
 
 // A row for each of `n` sources.
-fn put_table(buffer: &mut [u8], at: usize, all: bool, n: usize, distances: &[i64]) -> usize
-    requires { (at + 65 * 1024 ≤ length buffer.old) × (n ≤ 32) × (length distances.now ≡ 1024) }
-    ensures { Put (65 * 32 * n) (flat n (pairs_text all n distances.now)) buffer.old buffer.new at result }
+fn put_table(text: &mut Text<'_>, all: bool, n: usize, distances: &[i64; 1024])
+    requires { Room (65 * 1024) text.old × (n ≤ 32) }
+    ensures { Appended (65 * 32 * n) (flat n (pairs_text all n distances.now)) text.old text.new }
 {
-    let mut next = at;
-    let mut from: usize = 0;
-    while from < n {
-        next = put_pairs(buffer, next, all, from, n, distances);
-        from += 1;
+    for from in 0..n {
+        put_pairs(text, all, from, n, distances);
     }
-    next
 }
 
 // The results of a run but its route: in method 4 every pair, in every other method every yard.
 pub fn put_rows(
-    buffer: &mut [u8],
-    at: usize,
+    text: &mut Text<'_>,
     all: bool,
-    h: Header,
-    distances: &[i64],
-    parents: &[i64],
-) -> usize
-    requires { Accepted h × (at + 65 * 1024 ≤ length buffer.old) × (length distances.now ≡ 1024) × (length parents.now ≡ 32) }
-    ensures { Put (65 * 1024) (rows_text all h distances.now parents.now) buffer.old buffer.new at result }
+    h: AcceptedHeader,
+    distances: &[i64; 1024],
+    parents: &[i64; 32],
+)
+    requires { Room (65 * 1024) text.old }
+    ensures { Appended (65 * 1024) (rows_text all h.header distances.now parents.now) text.old text.new }
 {
-    let n = h.vertices as usize;
-    let by_pairs = h.method == 4;
-    if by_pairs {
-        return put_table(buffer, at, all, n, distances);
+    let n = h.header.vertices as usize;
+    match headers::method_of(h) {
+        Method::FloydWarshall => put_table(text, all, n, distances),
+        _ => put_yards(text, all, n, distances, parents),
     }
-    put_yards(buffer, at, all, n, distances, parents)
 }
 
 // The first `count` places of a route.
-fn put_steps(buffer: &mut [u8], at: usize, count: usize, route: &[i64]) -> usize
-    requires { (at + 22 * count ≤ length buffer.old) × (count ≤ length route.now) }
-    ensures { Put (22 * count) (steps_text count route.now) buffer.old buffer.new at result }
+fn put_steps(text: &mut Text<'_>, count: usize, route: &[i64])
+    requires { Room (22 * count) text.old × (count ≤ length route.now) }
+    ensures { Appended (22 * count) (steps_text count route.now) text.old text.new }
 {
-    let mut next = at;
-    let mut k: usize = 0;
-    while k < count {
-        next = lines::put_step(buffer, next, route[k]);
-        k += 1;
+    for edge in &route[..count] {
+        lines::put_step(text, *edge);
     }
-    next
 }
 
 // `route` and the edges shown; nothing but in method 5.
-pub fn put_route(buffer: &mut [u8], at: usize, h: Header, route: &[i64]) -> usize
-    requires { (at + 688 ≤ length buffer.old) × (0 < h.vertices) × (h.vertices ≤ 32) × (length route.now ≡ 31) }
-    ensures { Put 688 (route_text h route.now) buffer.old buffer.new at result }
+pub fn put_route(text: &mut Text<'_>, h: Header, route: &[i64; 31])
+    requires { Room 688 text.old × (0 < h.vertices) × (h.vertices ≤ 32) }
+    ensures { Appended 688 (route_text h route.now) text.old text.new }
 {
-    let unrouted = h.method != 5;
-    if unrouted {
-        return at;
-    }
-    let first = text::put_bytes(buffer, at, b"route");
-    let last = put_steps(buffer, first, h.vertices as usize - 1, route);
-    text::put_byte(buffer, last, b'\n')
+    let Ok(method) = Method::try_from(h.method) else {
+        return;
+    };
+    let Method::Routed = method else {
+        return;
+    };
+    text.put_bytes(b"route");
+    put_steps(text, h.vertices as usize - 1, route);
+    text.put_byte(b'\n');
 }
 
 // The first `count` words, a line each.
-pub fn put_words(buffer: &mut [u8], words: &[u64], count: usize) -> usize
-    requires { (17 * count ≤ length buffer.old) × (count ≤ length words.now) }
-    ensures { Put (17 * count) (words_text count words.now) buffer.old buffer.new 0 result }
+pub fn put_words(text: &mut Text<'_>, words: &[u64], count: usize)
+    requires { Room (17 * count) text.old × (count ≤ length words.now) }
+    ensures { Appended (17 * count) (words_text count words.now) text.old text.new }
 {
-    let mut next: usize = 0;
-    let mut line: usize = 0;
-    while line < count {
-        next = text::put_hex(buffer, next, words[line]);
-        next = text::put_byte(buffer, next, b'\n');
-        line += 1;
+    for word in &words[..count] {
+        text.put_hex(*word);
+        text.put_byte(b'\n');
     }
-    next
 }

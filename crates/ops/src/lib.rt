@@ -1,32 +1,55 @@
-// Operation words made, taken apart, tested, carried out on a bank of cells, and logged; and depths compared.
+// Operation words made, taken apart, tested, carried out on a bank of cells, and logged.
 // Rests on machine and fields.
 #![tactic(auto)]
 
-ghost use Rattle.std.specs.Prelude.{◌≡◌, ◌+◌, ◌^◌, ◌<◌, ◌≤◌, max, T, length, int_lt};
+ghost use Rattle.std.specs.Prelude.{◌≡◌, ◌+◌, ◌^◌, ◌<◌, ◌≤◌, T, length, MatchOption};
 ghost use Rattle.std.proofs.lemmas.List.Edits.{sets};
 ghost use Rattle.fields.specs.Fields.{signed_of, join_of};
-ghost use Rattle.machine.specs.Effect as Effect;
 ghost use Rattle.machine.specs.Instruction as Instruction;
-ghost use Rattle.machine.specs.Effect.{bit, eq_z, wrap_add, perform};
-ghost use Rattle.machine.specs.Word.{FieldsAre, packed, decode_at, admissible_at, admissible};
+ghost use Rattle.machine.specs.Effect.{perform};
+ghost use Rattle.machine.specs.Word.{FieldsAre, op_field, packed, decode_at, admissible_at, admissible};
 ghost use Rattle.machine.specs.Value.{value_of};
-ghost use Rattle.machine.specs.Log.{carry, carried, logged};
+ghost use Rattle.machine.specs.Log.{carry, carried, logged, opens};
+ghost use Rattle.ops.specs.Op.{code};
 
-pub const SET: u64 = 0;
+// The ops, in the order of their codes.
+#[derive(Clone, Copy, PartialEq, Eq)]
+pub enum Op {
+    Set,
+    Copy,
+    Add,
+    Less,
+    Equal,
+    Both,
+    MoveIf,
+    Open,
+}
 
-pub const COPY: u64 = 1;
+impl Op {
+    // The op of a code; a word's op field may hold one that is none.
+    pub fn parse(field: u64) -> Option<Op>
+        ensures { MatchOption result (8 ≤ field) (λ op. code op ≡ field) }
+    {
+        match field {
+            0 => Some(Op::Set),
+            1 => Some(Op::Copy),
+            2 => Some(Op::Add),
+            3 => Some(Op::Less),
+            4 => Some(Op::Equal),
+            5 => Some(Op::Both),
+            6 => Some(Op::MoveIf),
+            7 => Some(Op::Open),
+            _ => None,
+        }
+    }
 
-pub const ADD: u64 = 2;
-
-pub const LESS: u64 = 3;
-
-pub const EQUAL: u64 = 4;
-
-pub const BOTH: u64 = 5;
-
-pub const MOVEIF: u64 = 6;
-
-pub const OPEN: u64 = 7;
+    // And back.
+    pub fn code(self) -> u64
+        ensures { result ≡ code self }
+    {
+        self as u64
+    }
+}
 
 // ---- words
 
@@ -38,7 +61,7 @@ pub fn pack(op: u64, d: u64, a: u64, b: u64) -> u64
     fields::join(fields::join(fields::join(op, d, 20), a, 20), b, 20)
 }
 
-// What `pack` put together.
+// What `pack` put together, as numbers: a header word has a method where an operation word has the code of its op.
 #[derive(Clone, Copy)]
 pub struct Parts {
     pub op: u64,
@@ -59,93 +82,83 @@ pub fn split(word: u64) -> Parts
     }
 }
 
-// Whether an op and its fields are those of an instruction that a bank of `count` cells can carry out.
-fn admits_fields(count: u64, op: u64, d: u64, a: u64, b: u64) -> bool
-    ensures { result ≡ admissible_at count op d a b }
+// An operation word taken apart.
+#[derive(Clone, Copy)]
+pub struct Operation {
+    pub op: Op,
+    pub d: u64,
+    pub a: u64,
+    pub b: u64,
+}
+
+impl Operation {
+    // A word as an operation, where its op field holds the code of one.
+    pub fn parse(word: u64) -> Option<Operation>
+        ensures { MatchOption result (8 ≤ op_field word)
+            (λ w. FieldsAre word (code w.op) w.d w.a w.b × (w.d < 2 ^ 20) × (w.a < 2 ^ 20) × (w.b < 2 ^ 20)) }
+    {
+        let w = split(word);
+        let op = Op::parse(w.op)?;
+        Some(Operation {
+            op,
+            d: w.d,
+            a: w.a,
+            b: w.b,
+        })
+    }
+
+    // The same of a word that is one, as each that cells admit.
+    pub fn of(word: u64) -> Operation
+        requires { op_field word < 8 }
+        ensures { FieldsAre word (code result.op) result.d result.a result.b × (result.d < 2 ^ 20) × (result.a < 2 ^ 20) × (result.b < 2 ^ 20) }
+    {
+        Operation::parse(word).unwrap()
+    }
+}
+
+// Whether a word is an OPEN.
+pub fn opens(word: u64) -> bool
+    ensures { result ≡ opens word }
 {
-    let unknown = OPEN < op;
-    if unknown {
-        return false;
+    matches!(Op::parse(fields::field(word, 60, 4)), Some(Op::Open))
+}
+
+// Whether an operation is an instruction that a bank of `count` cells can carry out.
+fn admits_fields(count: u64, w: Operation) -> bool
+    ensures { result ≡ admissible_at count (code w.op) w.d w.a w.b }
+{
+    match w.op {
+        Op::Set => w.d < count,
+        Op::Open => w.d == 0 && w.b == 0 && w.a < count,
+        Op::Copy => w.b == 0 && w.d < count && w.a < count,
+        _ => w.d < count && w.a < count && w.b < count,
     }
-    if op == SET {
-        return d < count;
-    }
-    if op == OPEN {
-        if d != 0 {
-            return false;
-        }
-        if b != 0 {
-            return false;
-        }
-        return a < count;
-    }
-    if op == COPY {
-        if b != 0 {
-            return false;
-        }
-    }
-    if count <= d {
-        return false;
-    }
-    if count <= a {
-        return false;
-    }
-    b < count
 }
 
 // Whether a bank of `count` cells can carry out a word.
 pub fn admits(word: u64, count: usize) -> bool
     ensures { result ≡ admissible count word }
 {
-    let w = split(word);
-    admits_fields(count as u64, w.op, w.d, w.a, w.b)
+    match Operation::parse(word) {
+        Some(w) => admits_fields(count as u64, w),
+        None => false,
+    }
 }
 
 // ---- carrying out
 
-// [a] + [b], by the supplied wrapping add on the bits.
-fn sum(x: i64, y: i64) -> i64
-    ensures { result ≡ wrap_add x y }
-{
-    fields::signed(
-        std::num::wrapping_add_u64(fields::bits(x, 64), fields::bits(y, 64)),
-        64,
-    )
-}
-
-fn less(x: i64, y: i64) -> i64
-    ensures { result ≡ bit (int_lt x y) }
-{
-    let below = x < y;
-    if below { 1 } else { 0 }
-}
-
-fn equal(x: i64, y: i64) -> i64
-    ensures { result ≡ bit (eq_z x y) }
-{
-    if x == y { 1 } else { 0 }
-}
-
-fn both(x: i64, y: i64) -> i64
-    ensures { result ≡ Effect.both x y }
-{
-    if x == 0 {
-        return 0;
-    }
-    if y == 0 { 0 } else { 1 }
-}
-
 // What an op from COPY to BOTH leaves in [d], from [a] and [b].
-fn value(op: u64, x: i64, y: i64) -> i64
-    requires { (0 < op) × (op < 6) }
-    ensures { result ≡ value_of op x y }
+fn value(op: Op, x: i64, y: i64) -> i64
+    requires { (0 < code op) × (code op < 6) }
+    ensures { result ≡ value_of (code op) x y }
 {
     match op {
-        1 => x,
-        2 => sum(x, y),
-        3 => less(x, y),
-        4 => equal(x, y),
-        _ => both(x, y),
+        Op::Copy => x,
+        Op::Add => x.wrapping_add(y),
+        Op::Less => i64::from(x < y),
+        Op::Equal => i64::from(x == y),
+        Op::Both => i64::from(x != 0 && y != 0),
+        Op::Set | Op::MoveIf | Op::Open => unreachable!(),
     }
 }
 
@@ -172,27 +185,24 @@ fn constant(a: u64, b: u64) -> i64
 }
 
 // An instruction, by its fields, carried out.
-fn step_fields(cells: &mut [i64], op: u64, d: u64, a: u64, b: u64)
-    requires { (a < 2 ^ 20) × (b < 2 ^ 20) × T (admissible_at (length cells.old) op d a b) }
-    ensures { cells.new ≡ carry (decode_at op d a b) cells.old }
+fn step_fields(cells: &mut [i64], w: Operation)
+    requires { (w.a < 2 ^ 20) × (w.b < 2 ^ 20) × T (admissible_at (length cells.old) (code w.op) w.d w.a w.b) }
+    ensures { cells.new ≡ carry (decode_at (code w.op) w.d w.a w.b) cells.old }
 {
-    if op == MOVEIF {
-        move_if(cells, d, a, b);
-        return;
+    match w.op {
+        Op::MoveIf => move_if(cells, w.d, w.a, w.b),
+        Op::Set => {
+            let k = constant(w.a, w.b);
+            cells[w.d as usize] = k;
+        }
+        Op::Open => {}
+        op => {
+            let x = cells[w.a as usize];
+            let y = cells[w.b as usize];
+            let v = value(op, x, y);
+            cells[w.d as usize] = v;
+        }
     }
-    let i = d as usize;
-    if op == SET {
-        let k = constant(a, b);
-        cells[i] = k;
-        return;
-    }
-    if op == OPEN {
-        return;
-    }
-    let x = cells[a as usize];
-    let y = cells[b as usize];
-    let v = value(op, x, y);
-    cells[i] = v;
 }
 
 // An admissible word carried out on the cells.
@@ -200,8 +210,8 @@ pub fn step(cells: &mut [i64], word: u64)
     requires { T (admissible (length cells.old) word) }
     ensures { cells.new ≡ carried word cells.old }
 {
-    let w = split(word);
-    step_fields(cells, w.op, w.d, w.a, w.b)
+    let w = Operation::of(word);
+    step_fields(cells, w)
 }
 
 // ---- logging
@@ -212,20 +222,11 @@ pub fn append(cells: &[i64], log: &mut [u64], at: usize, word: u64) -> usize
     ensures { (result ≡ at + length (logged word cells.now)) × (log.new ≡ sets log.old at (logged word cells.now)) }
 {
     log[at] = word;
-    let w = split(word);
-    if w.op == OPEN {
+    let w = Operation::of(word);
+    if let Op::Open = w.op {
         let cell = cells[w.a as usize];
-        log[at + 1] = fields::bits(cell, 64);
+        log[at + 1] = cell.cast_unsigned();
         return at + 2;
     }
     at + 1
-}
-
-// ---- depths
-
-// The greater of two depths.
-pub fn greater(x: u64, y: u64) -> u64
-    ensures { result ≡ max x y }
-{
-    if x < y { y } else { x }
 }

@@ -1,9 +1,9 @@
 -- What writing a plan answers, and what the buffer then holds. Rests on plans and refusals.
-use Rattle.std.specs.Prelude.{◌≡◌, List, [], ◌∷◌, map, ℕ, leb, length, get_or}
+use Rattle.std.specs.Prelude.{◌≡◌, Result, Ok, Err, List, [], ◌∷◌, map, ℕ, leb, length, get_or}
 use Rattle.std.proofs.Math.Option.{Option, none, some}
 use Rattle.lists.specs.Buffers.{overwritten}
-use Rattle.answers.specs.declared.Refusal.{Refusal}
-use Rattle.answers.specs.Refusal.{Method, Log, need, or_else}
+use Rattle.answers.specs.declared.Refusal as Code
+use Rattle.answers.specs.Refusal.{Refusal, Method, Log, rule_of, need, or_else}
 use Rattle.answers.specs.Told.{Told, refused}
 use Rattle.machine.specs.Word.{encode}
 use Rattle.plans.specs.declared.Header.{Header}
@@ -12,8 +12,6 @@ use Rattle.plans.specs.Regions.{address}
 use Rattle.plans.specs.Outline.{start, instructions}
 use Rattle.plans.specs.Method1 as Method1
 use Rattle.plans.specs.Plan.{header_of, plan_of}
-use Rattle.planner.specs.declared.Written.{Written}
-use Rattle.planner.specs.declared.Written.TheVariants.{Length, Refused}
 use Rattle.headers.specs.Refusal.{header_refusal}
 
 -- 1 to 4, then 7: no header word, the header's own, a buffer of fewer words than the plan.
@@ -21,10 +19,10 @@ unfoldable pub plan_refusal : (header : List ℕ) (room : ℕ) → Option Refusa
 plan_refusal [] room = some Method
 plan_refusal (w ∷ rest) room = or_else (header_refusal (header_of w)) (need (leb (length (plan_of (header_of w))) room) Log none)
 
--- What an answer says.
-abbrev pub told_by_writing : Written → Told
-told_by_writing (Length size) = record { number = 0; place = none; values = size ∷ [] }
-told_by_writing (Refused r) = refused r
+-- What an answer says: the plan's length, or a refusal.
+abbrev pub told_by_writing : Result ℕ Code.Refusal → Told
+told_by_writing (Ok size) = record { number = 0; place = none; values = size ∷ [] }
+told_by_writing (Err r) = refused (rule_of r)
 
 -- The answer and the buffer, for the plan's words and the refusal met.
 abbrev pub answer_of : Option Refusal → (plan : List ℕ) → Told
@@ -46,6 +44,6 @@ solve_words h =
     let m = h.edges in
     map encode (instructions (address (Method1.starts n m)) far n m h.source Method1.solve start)
 
-pub record WrittenPlan (header buffer : List ℕ) (answer : Written) (after : List ℕ) : Type 0 where
+pub record WrittenPlan (header buffer : List ℕ) (answer : Result ℕ Code.Refusal) (after : List ℕ) : Type 0 where
   pub answers : told_by_writing answer ≡ answer_of (plan_refusal header (length buffer)) (plan_words header)
   pub leaves : after ≡ buffer_of (plan_refusal header (length buffer)) (plan_words header) buffer

@@ -9,59 +9,54 @@ mod method4;
 mod method5;
 
 ghost use Rattle.std.specs.Prelude.{◌≡◌, ◌≤◌, length, drop};
-ghost use Rattle.plans.specs.Plan.{Accepted, plan_of, length_of};
+ghost use Rattle.plans.specs.Plan.{plan_of, length_of};
 ghost use Rattle.tables.specs.Writing.{Wrote};
 ghost use Rattle.lists.specs.Buffers.{overwritten};
 ghost use Rattle.planner.specs.Written.{WrittenPlan};
 
-use answers::{Checked, Refusal};
-use plans::Header;
+use answers::Refusal;
+use headers::{AcceptedHeader, Method};
 
-// What writing a plan answers: its length, or a refusal.
-#[derive(Clone, Copy)]
-pub enum Written {
-    Length(usize),
-    Refused(Refusal),
-}
-
-// The operation words of the header's plan, written after its header word; the plan's length.
-fn write_words(h: Header, plan: &mut [u64]) -> usize
-    requires { Accepted h × (length_of h ≤ length plan.old) }
-    ensures { Wrote (drop 1 (plan_of h)) plan.old plan.new 1 result }
+// The operation words of the header's plan, written after its header word; the plan's length. That there is room is said of the header and of a
+// lent buffer together, so no type has it.
+fn write_words(h: AcceptedHeader, plan: &mut [u64]) -> usize
+    requires { length_of h.header ≤ length plan.old }
+    ensures { Wrote (drop 1 (plan_of h.header)) plan.old plan.new 1 result }
 {
-    let method = h.method;
-    match method {
-        1 => method1::write(h, plan),
-        2 => method2::write(h, plan),
-        3 => method3::write(h, plan),
-        4 => method4::write(h, plan),
-        _ => method5::write(h, plan),
+    match headers::method_of(h) {
+        Method::BellmanFord => method1::write(h, plan),
+        Method::Dijkstra => method2::write(h, plan),
+        Method::Jacobi => method3::write(h, plan),
+        Method::FloydWarshall => method4::write(h, plan),
+        Method::Routed => method5::write(h, plan),
     }
 }
 
 // The plan written to the start of a buffer; its length.
-pub fn fill(h: Header, plan: &mut [u64]) -> usize
-    requires { Accepted h × (length_of h ≤ length plan.old) }
-    ensures { (result ≡ length_of h) × (plan.new ≡ overwritten (plan_of h) plan.old) }
+pub fn fill(h: AcceptedHeader, plan: &mut [u64]) -> usize
+    requires { length_of h.header ≤ length plan.old }
+    ensures { (result ≡ length_of h.header) × (plan.new ≡ overwritten (plan_of h.header) plan.old) }
 {
-    plan[0] = ops::pack(h.method, h.vertices, h.edges, h.source);
+    plan[0] = ops::pack(
+        h.header.method,
+        h.header.vertices,
+        h.header.edges,
+        h.header.source,
+    );
     write_words(h, plan)
 }
 
-// The plan of a header, whose first word alone is looked at, written to the start of a buffer; refused, the buffer stays.
-pub fn write_plan(header: &[u64], plan: &mut [u64]) -> Written
+// The plan of a header, whose first word alone is looked at, written to the start of a buffer; its length. Refused, the buffer stays.
+pub fn write_plan(header: &[u64], plan: &mut [u64]) -> Result<usize, Refusal>
     ensures { WrittenPlan header.now plan.old result plan.new }
 {
-    if header.len() == 0 {
-        return Written::Refused(answers::METHOD);
-    }
-    let h = headers::read_header(header[0]);
-    if let Checked::Refused(refusal) = headers::check_header(h) {
-        return Written::Refused(refusal);
-    }
+    let [word, ..] = header else {
+        return Err(Refusal::Method);
+    };
+    let h = headers::check_header(headers::read_header(*word))?;
     let f = headers::figures_of(h);
     if plan.len() < f.length {
-        return Written::Refused(answers::LOG);
+        return Err(Refusal::Log);
     }
-    Written::Length(fill(h, plan))
+    Ok(fill(h, plan))
 }

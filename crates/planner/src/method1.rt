@@ -1,11 +1,11 @@
 // Method 1: its plan as lines, in document 01's order, and where its regions begin.
-// Rests on ops, rows and tables.
+// Rests on headers, ops, rows and tables.
 ghost use Rattle.std.specs.Prelude.{◌≡◌, ◌≤◌, length, drop};
-ghost use Rattle.plans.specs.Plan.{Accepted, plan_of, length_of};
+ghost use Rattle.plans.specs.Plan.{plan_of, length_of};
 ghost use Rattle.tables.specs.Writing.{RoomAt, Wrote};
 ghost use Rattle.planner.specs.Written.{solve_words};
 
-use plans::Header;
+use headers::AcceptedHeader;
 use rows::{
     A_, ADD, AGAIN, BOTH, COPY, D_, EACH_I, EDGES, EQUAL, FROM_SOURCE, I, LESS, MINUS_ONE, MOVEIF,
     OTHERS, RUN, SET, UNREACHED, V, VERTICES,
@@ -69,24 +69,29 @@ const SOLVE: [u64; 35] = [
 ];
 
 // The words of the opening, the passes and the check, written after a plan's header word; the place after them.
-pub fn write_solve(h: Header, plan: &mut [u64]) -> usize
-    requires { Accepted h × RoomAt (solve_words h) plan.old 1 }
-    ensures { Wrote (solve_words h) plan.old plan.new 1 result }
+pub fn write_solve(h: AcceptedHeader, plan: &mut [u64]) -> usize
+    requires { RoomAt (solve_words h.header) plan.old 1 }
+    ensures { Wrote (solve_words h.header) plan.old plan.new 1 result }
 {
-    let n = h.vertices;
-    let m = h.edges;
+    let n = h.header.vertices;
+    let m = h.header.edges;
     let d = 3 * m;
     let env = [0, n, m, n - 1, 0, m, 2 * m, d, d + n, d + 2 * n, d + 3 * n];
-    let mut table = [0u64; 210];
-    tables::write(&SOLVE, n, &env, h.source, &mut table, plan, 1)
+    let mut table = [rows::EMPTY; 35];
+    tables::write(&SOLVE, n, &env, h.header.source, &mut table, plan, 1)
 }
 
 // The plan's words, written after its header word, the last one OPEN X+7, the verdict; the plan's length.
-pub fn write(h: Header, plan: &mut [u64]) -> usize
-    requires { Accepted h × (h.method ≡ 1) × (length_of h ≤ length plan.old) }
-    ensures { Wrote (drop 1 (plan_of h)) plan.old plan.new 1 result }
+pub fn write(h: AcceptedHeader, plan: &mut [u64]) -> usize
+    requires { (h.header.method ≡ 1) × (length_of h.header ≤ length plan.old) }
+    ensures { Wrote (drop 1 (plan_of h.header)) plan.old plan.new 1 result }
 {
     let next = write_solve(h, plan);
-    plan[next] = ops::pack(ops::OPEN, 0, 3 * h.edges + 3 * h.vertices + 7, 0);
+    plan[next] = ops::pack(
+        ops::Op::Open.code(),
+        0,
+        3 * h.header.edges + 3 * h.header.vertices + 7,
+        0,
+    );
     next + 1
 }

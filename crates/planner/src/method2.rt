@@ -1,10 +1,10 @@
 // Method 2: its plan as lines, in document 01's order, and where its regions begin.
-// Rests on rows and tables.
+// Rests on headers, rows and tables.
 ghost use Rattle.std.specs.Prelude.{◌≡◌, ◌≤◌, length, drop};
-ghost use Rattle.plans.specs.Plan.{Accepted, plan_of, length_of};
+ghost use Rattle.plans.specs.Plan.{plan_of, length_of};
 ghost use Rattle.tables.specs.Writing.{Wrote};
 
-use plans::Header;
+use headers::AcceptedHeader;
 use rows::{
     A_, ADD, AGAIN, BOTH, COPY, D_, EACH_I, EQUAL, FROM_SOURCE, I, LESS, MINUS_ONE, MOVEIF, ROW_I,
     RUN, SET, UNREACHED, V, VERTICES,
@@ -58,11 +58,11 @@ const LINES: [u64; 27] = [
 ];
 
 // The plan's words, written after its header word; the plan's length.
-pub fn write(h: Header, plan: &mut [u64]) -> usize
-    requires { Accepted h × (h.method ≡ 2) × (length_of h ≤ length plan.old) }
-    ensures { Wrote (drop 1 (plan_of h)) plan.old plan.new 1 result }
+pub fn write(h: AcceptedHeader, plan: &mut [u64]) -> usize
+    requires { (h.header.method ≡ 2) × (length_of h.header ≤ length plan.old) }
+    ensures { Wrote (drop 1 (plan_of h.header)) plan.old plan.new 1 result }
 {
-    let n = h.vertices;
+    let n = h.header.vertices;
     let u = n * n;
     let env = [
         0,
@@ -77,6 +77,6 @@ pub fn write(h: Header, plan: &mut [u64]) -> usize
         u + 4 * n,
         u + 5 * n,
     ];
-    let mut table = [0u64; 162];
-    tables::write(&LINES, n, &env, h.source, &mut table, plan, 1)
+    let mut table = [rows::EMPTY; 27];
+    tables::write(&LINES, n, &env, h.header.source, &mut table, plan, 1)
 }

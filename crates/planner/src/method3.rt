@@ -1,10 +1,10 @@
 // Method 3: its plan as lines, in document 02's order, and where its regions begin.
-// Rests on rows and tables.
+// Rests on headers, rows and tables.
 ghost use Rattle.std.specs.Prelude.{◌≡◌, ◌≤◌, length, drop};
-ghost use Rattle.plans.specs.Plan.{Accepted, plan_of, length_of};
+ghost use Rattle.plans.specs.Plan.{plan_of, length_of};
 ghost use Rattle.tables.specs.Writing.{Wrote};
 
-use plans::Header;
+use headers::AcceptedHeader;
 use rows::{
     A_, ADD, AGAIN, BOTH, COPY, D_, EACH_I, EDGES, EQUAL, FROM_SOURCE, I, LESS, MINUS_ONE, MOVEIF,
     OPEN, OTHERS, ROW_I, RUN, SET, UNREACHED, V, VERTICES,
@@ -94,12 +94,12 @@ const LINES: [u64; 49] = [
 ];
 
 // The plan's words, written after its header word; the plan's length.
-pub fn write(h: Header, plan: &mut [u64]) -> usize
-    requires { Accepted h × (h.method ≡ 3) × (length_of h ≤ length plan.old) }
-    ensures { Wrote (drop 1 (plan_of h)) plan.old plan.new 1 result }
+pub fn write(h: AcceptedHeader, plan: &mut [u64]) -> usize
+    requires { (h.header.method ≡ 3) × (length_of h.header ≤ length plan.old) }
+    ensures { Wrote (drop 1 (plan_of h.header)) plan.old plan.new 1 result }
 {
-    let n = h.vertices;
-    let m = h.edges;
+    let n = h.header.vertices;
+    let m = h.header.edges;
     let d = 3 * m + 1;
     let x = d + 5 * n;
     let s = x + 9;
@@ -121,6 +121,6 @@ pub fn write(h: Header, plan: &mut [u64]) -> usize
         s + m,
         s + m + n * m,
     ];
-    let mut table = [0u64; 294];
-    tables::write(&LINES, n, &env, h.source, &mut table, plan, 1)
+    let mut table = [rows::EMPTY; 49];
+    tables::write(&LINES, n, &env, h.header.source, &mut table, plan, 1)
 }

@@ -1,10 +1,10 @@
 // Method 4: its plan as lines, in document 02's order, and where its regions begin.
-// Rests on rows and tables.
+// Rests on headers, rows and tables.
 ghost use Rattle.std.specs.Prelude.{◌≡◌, ◌≤◌, length, drop};
-ghost use Rattle.plans.specs.Plan.{Accepted, plan_of, length_of};
+ghost use Rattle.plans.specs.Plan.{plan_of, length_of};
 ghost use Rattle.tables.specs.Writing.{Wrote};
 
-use plans::Header;
+use headers::AcceptedHeader;
 use rows::{
     A_, ADD, AGAIN, BOTH, COPY, D_, EACH_I, EACH_T, EDGES, EQUAL, I, LESS, MOVEIF, OPEN, ROW_I,
     ROW_T, ROW_V, RUN, SET, T, UNREACHED, V, VERTICES,
@@ -85,12 +85,12 @@ const LINES: [u64; 44] = [
 ];
 
 // The plan's words, written after its header word; the plan's length.
-pub fn write(h: Header, plan: &mut [u64]) -> usize
-    requires { Accepted h × (h.method ≡ 4) × (length_of h ≤ length plan.old) }
-    ensures { Wrote (drop 1 (plan_of h)) plan.old plan.new 1 result }
+pub fn write(h: AcceptedHeader, plan: &mut [u64]) -> usize
+    requires { (h.header.method ≡ 4) × (length_of h.header ≤ length plan.old) }
+    ensures { Wrote (drop 1 (plan_of h.header)) plan.old plan.new 1 result }
 {
-    let n = h.vertices;
-    let m = h.edges;
+    let n = h.header.vertices;
+    let m = h.header.edges;
     let d = 3 * m;
     let c = d + n * n;
     let env = [
@@ -107,6 +107,6 @@ pub fn write(h: Header, plan: &mut [u64]) -> usize
         c + 2 * n,
         c + 3 * n,
     ];
-    let mut table = [0u64; 264];
-    tables::write(&LINES, n, &env, h.source, &mut table, plan, 1)
+    let mut table = [rows::EMPTY; 44];
+    tables::write(&LINES, n, &env, h.header.source, &mut table, plan, 1)
 }

@@ -1,11 +1,11 @@
 // Method 5: its plan as lines after those that method 1 has too, in document 02's order, and where its regions begin.
-// Rests on method 1, rows and tables.
+// Rests on headers, method 1, rows and tables.
 ghost use Rattle.std.specs.Prelude.{◌≡◌, ◌≤◌, length, drop};
-ghost use Rattle.plans.specs.Plan.{Accepted, plan_of, length_of};
+ghost use Rattle.plans.specs.Plan.{plan_of, length_of};
 ghost use Rattle.tables.specs.Writing.{Wrote};
 
 use crate::method1::{FROM, P, X, Y};
-use plans::Header;
+use headers::AcceptedHeader;
 use rows::{A_, COPY, D_, EACH_I, EDGES, EQUAL, I, MOVEIF, OPEN, OTHERS, RUN, SET, V, VERTICES};
 
 const Z: u64 = 11 << 11;
@@ -38,12 +38,12 @@ const LINES: [u64; 15] = [
 ];
 
 // The plan's words, written after its header word: method 1's but for the last, then its own; the plan's length.
-pub fn write(h: Header, plan: &mut [u64]) -> usize
-    requires { Accepted h × (h.method ≡ 5) × (length_of h ≤ length plan.old) }
-    ensures { Wrote (drop 1 (plan_of h)) plan.old plan.new 1 result }
+pub fn write(h: AcceptedHeader, plan: &mut [u64]) -> usize
+    requires { (h.header.method ≡ 5) × (length_of h.header ≤ length plan.old) }
+    ensures { Wrote (drop 1 (plan_of h.header)) plan.old plan.new 1 result }
 {
-    let n = h.vertices;
-    let m = h.edges;
+    let n = h.header.vertices;
+    let m = h.header.edges;
     let d = 3 * m;
     let x = d + 3 * n;
     let env = [
@@ -62,7 +62,7 @@ pub fn write(h: Header, plan: &mut [u64]) -> usize
         x + 9,
         d + 4 * n + 9,
     ];
-    let mut table = [0u64; 90];
+    let mut table = [rows::EMPTY; 15];
     let next = crate::method1::write_solve(h, plan);
-    tables::write(&LINES, n, &env, h.source, &mut table, plan, next)
+    tables::write(&LINES, n, &env, h.header.source, &mut table, plan, next)
 }

@@ -8,9 +8,7 @@ use Prim.Native.Nat.{ℕ, zero, suc, ◌-◌, ◌*◌, ◌<◌, ◌≤◌}
 use native.Mathlib.Omega.{arith}
 use lib.ListN.{get_or, length-replicate}
 use Rattle.text.specs.Text.{leading, decimal, line_of}
-use Rattle.answers.specs.declared.Place.{Place}
-use Rattle.answers.specs.declared.Place.TheVariants.{At, Nowhere}
-use Rattle.answers.specs.declared.Refusal.{Refusal}
+use Rattle.answers.specs.Refusal.{Refusal}
 use Rattle.answers.specs.Refusal.{plain, placed}
 use Rattle.plans.specs.declared.Header.{Header}
 use Rattle.plans.specs.Plan.{Accepted, Kind, distances, parents, route, by_kind}
@@ -176,7 +174,7 @@ never_nine = told_otherwise 9 (omega arith) (omega arith)
 
 -- So whatever its argument and the bytes are, these are not what it prints.
 module _ (argument bytes : List ℕ) where
-  told : (k : ℕ) (place : Place) → k < 10 → desk_text argument bytes ≡ refusal_text k place → (outcome (request_of bytes) desk_lent).answer.number ≡ k
+  told : (k : ℕ) (place : Option ℕ) → k < 10 → desk_text argument bytes ≡ refusal_text k place → (outcome (request_of bytes) desk_lent).answer.number ≡ k
   unfolding desk_text text_of
   told k place few =
       let o = outcome (request_of bytes) desk_lent in
@@ -184,7 +182,7 @@ module _ (argument bytes : List ℕ) where
 
   pub never_prints_eight : desk_text argument bytes ≢ text "refused 8\n"
   unfolding line_of decimal leading
-  never_prints_eight e = never_eight (request_of bytes) (told 8 Nowhere (omega arith) e)
+  never_prints_eight e = never_eight (request_of bytes) (told 8 none (omega arith) e)
 
-  pub never_prints_nine : (place : ℕ) → desk_text argument bytes ≢ refusal_text 9 (At place)
-  never_prints_nine place e = never_nine (request_of bytes) (told 9 (At place) (omega arith) e)
+  pub never_prints_nine : (place : ℕ) → desk_text argument bytes ≢ refusal_text 9 (some place)
+  never_prints_nine place e = never_nine (request_of bytes) (told 9 (some place) (omega arith) e)

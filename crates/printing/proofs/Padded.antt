@@ -12,7 +12,7 @@ use lib.Seq.{take_all, get_or-take, length-take-le}
 use borrow.Author.Tests.{ne_eqb}
 use Rattle.lists.specs.Buffers.{overwritten}
 use Rattle.fields.specs.Fields.{join_of}
-use Rattle.answers.specs.declared.Refusal.{Refusal}
+use Rattle.answers.specs.Refusal.{Refusal}
 use Rattle.answers.specs.Refusal.{Words, or_else}
 use Rattle.plans.specs.declared.Header.{Header}
 use Rattle.plans.specs.Plan.{Accepted, header_of, word_count_of}

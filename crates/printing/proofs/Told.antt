@@ -3,6 +3,7 @@
 use mathlib.Core.Path.{◌≡◌, sym, ap, ◌∙◌}
 use mathlib.Core.Bool.{Bool, false}
 use mathlib.Core.List.{List, [], ◌∷◌, ◌++◌, map, append_assoc}
+use mathlib.Core.Option.{Option}
 use Prim.Native.Nat.{ℕ, zero, suc, ◌+◌, ◌/◌, ◌%◌, ◌<◌, ◌≤◌}
 use native.Mathlib.Omega.{arith}
 use borrow.Author.Tests.{eqb-true, lt-ltb}
@@ -12,8 +13,6 @@ use lib.ListN.{length, get_or, drop}
 use Rattle.lists.proofs.Test.{by_test}
 use Rattle.io.specs.Digits.{hex_digit_ascii}
 use Rattle.text.specs.Text.{leading, decimal, after_word, line_of, numbers_line}
-use Rattle.answers.specs.declared.Place.{Place}
-use Rattle.answers.specs.Refusal.{place_shown}
 use Rattle.answers.specs.Told.{Told}
 use Rattle.plans.specs.declared.Header.{Header}
 use Rattle.printing.specs.Texts.{rows_text, route_text, first_numbers, results_text, place_if_any, refusal_text, told_text}
@@ -80,7 +79,7 @@ after_low left = by_test (eqb (length (map decimal left)) 0) (λ e. rw e (omega 
 
 -- ---- the text of an answer
 
-module _ (all : Bool) (h : Header) (t : Told) (ds ps rs : List ℤ) (k : ℕ) (few : k < 10) (place : Place) where
+module _ (all : Bool) (h : Header) (t : Told) (ds ps rs : List ℤ) (k : ℕ) (few : k < 10) (place : Option ℕ) where
   not_results : results_text all h t.values ds ps rs ≡ refusal_text k place → ⊥
   unfolding line_of
   not_results e =
@@ -91,10 +90,10 @@ module _ (all : Bool) (h : Header) (t : Told) (ds ps rs : List ℤ) (k : ℕ) (f
       ap (λ xs. get_or xs 0 0) (sym (append_assoc (decimal (get_or numbers 0 0)) left lines) ∙ e) in
       omega (arith, byte, first_digit (get_or numbers 0 0) (left ++ lines))
 
-  same_number : refusal_text t.number (place_shown t.place) ≡ refusal_text k place → t.number ≡ k
+  same_number : refusal_text t.number t.place ≡ refusal_text k place → t.number ≡ k
   unfolding line_of
   same_number e =
-      let left = after_number (place_if_any (place_shown t.place)) in
+      let left = after_number (place_if_any t.place) in
       let left' = after_number (place_if_any place) in
       let number : decimal t.number ++ left ≡ (48 + k) ∷ left' = ap (drop 8) e ∙ alone k left' few in
       by_test (eqb (t.number / 10) 0)

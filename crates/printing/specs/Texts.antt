@@ -1,11 +1,9 @@
 -- The text of a run's outcome, in bytes, as the desk's program prints it (document 01, "The desk's program"), and its log's text.
 -- Rests on the outcomes of runs and text's lines.
+use Rattle.std.proofs.Math.Option.{Option, none, some}
 use Rattle.std.specs.Prelude.{Bool, cond, not, ◌&&◌, ◌||◌, List, [], ◌∷◌, ◌++◌, ℕ, ◌+◌, ◌-◌, ◌*◌, eqb, ℤ, pos, length, get_or}
 use Rattle.std.specs.Int.Signed.{lt_z}
 use Rattle.text.specs.Text.{blank, dash, newline, decimal, signed, hexadecimal, line_of, numbers_line}
-use Rattle.answers.specs.declared.Place.{Place}
-use Rattle.answers.specs.declared.Place.TheVariants.{At, Nowhere}
-use Rattle.answers.specs.Refusal.{place_shown}
 use Rattle.answers.specs.Told.{Told}
 use Rattle.machine.specs.Effect.{eq_z}
 use Rattle.plans.specs.Blocks.{flat}
@@ -83,22 +81,22 @@ results_text all h values ds ps rs = numbers_line (first_numbers h values) ++ (r
 
 -- ---- `refused number place`, the place where there is one
 
-abbrev pub place_if_any : Place → List ℕ
-place_if_any (At place) = place ∷ []
-place_if_any Nowhere = []
+abbrev pub place_if_any : Option ℕ → List ℕ
+place_if_any (some place) = place ∷ []
+place_if_any none = []
 
 -- "refused "
 abbrev pub refused_word : List ℕ
 refused_word = 114 ∷ 101 ∷ 102 ∷ 117 ∷ 115 ∷ 101 ∷ 100 ∷ 32 ∷ []
 
-abbrev pub refusal_text : (number : ℕ) → Place → List ℕ
+abbrev pub refusal_text : (number : ℕ) → Option ℕ → List ℕ
 refusal_text number place = refused_word ++ numbers_line (number ∷ place_if_any place)
 
 -- ---- an answer
 
 abbrev pub told_text : (all : Bool) → Header → Told → (distances parents route : List ℤ) → List ℕ
 told_text all h t ds ps rs =
-    cond (eqb t.number 0) (results_text all h t.values ds ps rs) (refusal_text t.number (place_shown t.place))
+    cond (eqb t.number 0) (results_text all h t.values ds ps rs) (refusal_text t.number t.place)
 
 unfoldable pub text_of : (all : Bool) (request : List ℕ) → Outcome → List ℕ
 text_of all request o = told_text all (header_in request) o.answer (o.results distances) (o.results parents) (o.results route)
@@ -111,7 +109,7 @@ words_text count words = flat count (λ k. line_of (hexadecimal (get_or words k 
 abbrev pub told_log : Told → (log : List ℕ) → List ℕ
 told_log t log =
     cond (eqb t.number 0 || eqb t.number 12) (words_text (get_or t.values 1 0) log)
-    (refusal_text t.number (place_shown t.place))
+    (refusal_text t.number t.place)
 
 unfoldable pub log_text : Outcome → List ℕ
 log_text o = told_log o.answer o.log

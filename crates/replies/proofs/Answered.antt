@@ -1,54 +1,53 @@
 -- From what a run answers and leaves to the text of its outcome.
--- Rests on Fits, answers' Told, limits' Numbers, demands' Ran and printing's Unrefused.
+-- Rests on Fits, demands' Ran and printing's Unrefused.
 use mathlib.Core.Path.{◌≡◌, refl, sym, ap, ◌∙◌}
 use mathlib.Core.Bool.{Bool}
 use mathlib.Core.List.{List}
+use Rattle.std.specs.Prelude.{Ok, Err}
 use Prim.Native.Nat.{ℕ, ◌≤◌}
 use lib.IntN.{ℤ}
 use lib.ListN.{length, get_or}
-use Rattle.answers.specs.declared.Refusal.{Refusal}
-use Rattle.answers.specs.Refusal.{place_of, place_shown}
-use Rattle.answers.specs.Told.{refused, Apart}
-use Rattle.answers.proofs.Told.{met_by}
+use Rattle.answers.specs.declared.Refusal as Code
+use Rattle.answers.specs.declared.Refusal.TheVariants as Fault
+use Rattle.answers.specs.Refusal.{rule_of}
+use Rattle.answers.specs.Told.{Apart}
 use Rattle.plans.specs.declared.Header.{Header}
 use Rattle.plans.specs.Plan.{Accepted, distances, parents, route, by_kind}
 use Rattle.limits.specs.WithinLimits.{header_in}
-use Rattle.limits.proofs.Numbers.{request_apart}
-use Rattle.engine.specs.declared.Answer.{Answer}
-use Rattle.engine.specs.declared.Answer.TheVariants.{Ran, NegativeCycle, Refused}
-use Rattle.demands.specs.Run.{Lent, refusal_of, verdict_of_run, outcome_by, outcome}
-use Rattle.engine.specs.Answer.{told_by_run, Met}
-use Rattle.demands.proofs.Refused.{ran_values}
+use Rattle.demands.specs.Run.{Lent, outcome}
+use Rattle.engine.specs.declared.answer.Failure.TheVariants.{NegativeCycle, Refused}
+use Rattle.engine.specs.Answer.{Answer, told_by_run, Met}
 use Rattle.demands.proofs.Ran.{allowed}
-use Rattle.printing.specs.Texts.{refusal_text, told_text, text_of, told_log, log_text}
+use Rattle.printing.specs.Texts.{told_text, text_of, told_log, log_text}
 use Rattle.printing.proofs.Unrefused.{ran}
 use Rattle.replies.specs.Distinct.{Distinct}
 use Rattle.replies.proofs.Fits.{log_fits}
 
-pub refused_text : (r : Refusal) → Apart r → (all : Bool) (h : Header) (ds ps rs : List ℤ)
-    → refusal_text r.number (place_shown (place_of r)) ≡ told_text all h (refused r) ds ps rs
-refused_text r a all h ds ps rs = simp (a.0, a.1)
+-- No refusal has a run's number, so every answer is told from a run where it is one.
+refusal_apart : (r : Code.Refusal) → Apart (rule_of r)
+refusal_apart Fault.Method = (refl, refl)
+refusal_apart Fault.Vertices = (refl, refl)
+refusal_apart Fault.Edges = (refl, refl)
+refusal_apart Fault.Source = (refl, refl)
+refusal_apart Fault.Words = (refl, refl)
+refusal_apart Fault.Cells = (refl, refl)
+refusal_apart Fault.Log = (refl, refl)
+refusal_apart Fault.Results = (refl, refl)
+refusal_apart (Fault.Operation place) = (refl, refl)
+refusal_apart (Fault.SpareBits place) = (refl, refl)
+refusal_apart (Fault.Weight place) = (refl, refl)
+refusal_apart (Fault.FromVertex place) = (refl, refl)
+refusal_apart (Fault.ToVertex place) = (refl, refl)
+refusal_apart (Fault.Unsorted place) = (refl, refl)
+refusal_apart Fault.Destination = (refl, refl)
 
-pub refused_log : (r : Refusal) → Apart r → (log : List ℕ)
-    → refusal_text r.number (place_shown (place_of r)) ≡ told_log (refused r) log
-refused_log r a log = simp (a.0, a.1)
-
--- An answer that tells as the outcome does is told from a run where it is a refusal.
-told_distinct : (request : List ℕ) (lent : Lent) (a : Answer) → told_by_run a ≡ (outcome request lent).answer → Distinct a
-unfolding outcome
-told_distinct request lent (Ran r) e = tt
-told_distinct request lent (NegativeCycle r) e = tt
-told_distinct request lent (Refused r) e =
-    let (q, is, same) =
-    met_by (λ met. (outcome_by met request lent).answer) (λ q. refl) r (ran_values request lent r (verdict_of_run request lent))
-    (refusal_of request lent) (sym e) in
-    rw (sym (ap (λ t. t.number) same)) ((request_apart request _).holds q is)
+pub distinct : (a : Answer) → Distinct a
+distinct (Ok r) = tt
+distinct (Err (NegativeCycle r)) = tt
+distinct (Err (Refused r)) = refusal_apart r
 
 module _ (request : List ℕ) (lent : Lent) (a : Answer) (cells : List ℤ) (log : List ℕ) (ds ps rs : List ℤ)
     (m : Met (outcome request lent) a cells log (by_kind ds ps rs)) where
-  pub distinct : Distinct a
-  distinct = told_distinct request lent a m.answers
-
   -- A run's header is within the limits.
   pub run_accepted : (h : Header) → h ≡ header_in request → (told_by_run a).number ≡ 0 → Accepted h
   run_accepted h e z = rw e (allowed request lent (ran request lent (ap (λ t. t.number) (sym m.answers) ∙ z)))

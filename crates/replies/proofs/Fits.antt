@@ -6,7 +6,7 @@ use Prim.Native.Nat.{ℕ, zero, suc, ◌≤◌}
 use native.Mathlib.Omega.{arith}
 use lib.ListN.{length, get_or, drop, length-append}
 use Rattle.lists.specs.Buffers.{overwritten}
-use Rattle.answers.specs.declared.Refusal.{Refusal}
+use Rattle.answers.specs.Refusal.{Refusal}
 use Rattle.demands.specs.Run.{Lent, log_of_run, verdict_of_run, refusal_of, ran_by, outcome_by, outcome}
 
 overwritten_length : (xs ys : List ℕ) → length xs ≤ length (overwritten xs ys)

@@ -1,77 +1,97 @@
-// The text of an answer, and of a run's log, in a lent buffer.
-// Rests on answers, engine, listings and text.
+// The text of an answer, and of a run's log.
+// Rests on engine, listings and text.
 #![tactic(auto)]
 
 ghost use Rattle.std.specs.Prelude.{◌≡◌, ◌≤◌, length, get_or};
-ghost use Rattle.text.specs.Text.{Put};
+ghost use Rattle.text.specs.Appended.{Room, Appended};
+ghost use Rattle.answers.specs.Refusal.{option_of};
 ghost use Rattle.plans.specs.Plan.{Accepted};
 ghost use Rattle.engine.specs.Answer.{values_of, told_by_run};
 ghost use Rattle.printing.specs.Texts.{results_text, refusal_text, told_text, told_log};
-ghost use Rattle.replies.specs.Distinct.{Distinct};
 
-use answers::Place;
-use engine::{Answer, Report};
+use engine::{Failure, Report};
+use headers::AcceptedHeader;
 use plans::Header;
+use text::Text;
 
-// `method yards lanes source rounds verdict`, the rows, and the route.
+// `method yards lanes source rounds verdict`, the rows, and the route. The results come in three arrays, as a run is lent them.
 fn put_results(
-    buffer: &mut [u8],
+    text: &mut Text<'_>,
     all: bool,
-    h: Header,
+    h: AcceptedHeader,
     r: Report,
-    distances: &[i64],
-    parents: &[i64],
-    route: &[i64],
-) -> usize
-    requires { Accepted h × (67374 ≤ length buffer.old) × (length distances.now ≡ 1024) × (length parents.now ≡ 32) × (length route.now ≡ 31) }
-    ensures { Put 67374 (results_text all h (values_of r) distances.now parents.now route.now) buffer.old buffer.new 0 result }
+    distances: &[i64; 1024],
+    parents: &[i64; 32],
+    route: &[i64; 31],
+)
+    requires { Room 67374 text.old }
+    ensures { Appended 67374 (results_text all h.header (values_of r) distances.now parents.now route.now) text.old text.new }
 {
-    let line = [h.method, h.vertices, h.edges, h.source, r.rounds, r.verdict];
-    let next = text::put_numbers(buffer, 0, &line);
-    let last = listings::put_rows(buffer, next, all, h, distances, parents);
-    listings::put_route(buffer, last, h, route)
+    let public = h.header;
+    let line = [
+        public.method,
+        public.vertices,
+        public.edges,
+        public.source,
+        r.rounds,
+        r.verdict,
+    ];
+    text.put_numbers(&line);
+    listings::put_rows(text, all, h, distances, parents);
+    listings::put_route(text, public, route);
 }
 
-// `refused number place`
-fn put_refusal(buffer: &mut [u8], number: u64, place: Place) -> usize
-    requires { 50 ≤ length buffer.old }
-    ensures { Put 50 (refusal_text number place) buffer.old buffer.new 0 result }
+// `refused number place`, of any number.
+pub fn put_refusal(text: &mut Text<'_>, number: u64, place: Option<usize>)
+    requires { Room 50 text.old }
+    ensures { Appended 50 (refusal_text number (option_of place)) text.old text.new }
 {
-    let next = text::put_bytes(buffer, 0, b"refused ");
+    text.put_bytes(b"refused ");
     match place {
-        Place::At(k) => text::put_numbers(buffer, next, &[number, k as u64]),
-        Place::Nowhere => text::put_numbers(buffer, next, &[number]),
+        Some(k) => text.put_numbers(&[number, k as u64]),
+        None => text.put_numbers(&[number]),
     }
 }
 
 // What the desk's program prints of an answer. A loss circle is refused too, by 12: it has no results.
 pub fn put_answer(
-    buffer: &mut [u8],
+    text: &mut Text<'_>,
     all: bool,
     h: Header,
-    answer: Answer,
-    distances: &[i64],
-    parents: &[i64],
-    route: &[i64],
-) -> usize
-    requires { (67374 ≤ length buffer.old) × (length distances.now ≡ 1024) × (length parents.now ≡ 32) × (length route.now ≡ 31) × ((told_by_run answer).number ≡ 0 → Accepted h) × Distinct answer }
-    ensures { Put 67374 (told_text all h (told_by_run answer) distances.now parents.now route.now) buffer.old buffer.new 0 result }
+    answer: Result<Report, Failure>,
+    distances: &[i64; 1024],
+    parents: &[i64; 32],
+    route: &[i64; 31],
+)
+    requires { Room 67374 text.old × ((told_by_run answer).number ≡ 0 → Accepted h) }
+    ensures { Appended 67374 (told_text all h (told_by_run answer) distances.now parents.now route.now) text.old text.new }
 {
     match answer {
-        Answer::Ran(report) => put_results(buffer, all, h, report, distances, parents, route),
-        Answer::NegativeCycle(_) => put_refusal(buffer, 12, Place::Nowhere),
-        Answer::Refused(refusal) => put_refusal(buffer, refusal.number, refusal.place_of()),
+        Ok(report) => {
+            put_results(
+                text,
+                all,
+                AcceptedHeader { header: h },
+                report,
+                distances,
+                parents,
+                route,
+            );
+        }
+        Err(Failure::NegativeCycle(_)) => put_refusal(text, 12, None),
+        Err(Failure::Refused(refusal)) => put_refusal(text, refusal.number(), refusal.place()),
     }
 }
 
 // What `host_log` prints: the log of a request that ran, with a loss circle too, or the refusal.
-pub fn put_log(buffer: &mut [u8], answer: Answer, log: &[u64]) -> usize
-    requires { (139264 ≤ length buffer.old) × (length log.now ≡ 8192) × (get_or (told_by_run answer).values 1 0 ≤ 8192) × Distinct answer }
-    ensures { Put 139264 (told_log (told_by_run answer) log.now) buffer.old buffer.new 0 result }
+pub fn put_log(text: &mut Text<'_>, answer: Result<Report, Failure>, log: &[u64])
+    requires { Room 139264 text.old × (length log.now ≡ 8192) × (get_or (told_by_run answer).values 1 0 ≤ 8192) }
+    ensures { Appended 139264 (told_log (told_by_run answer) log.now) text.old text.new }
 {
     match answer {
-        Answer::Ran(report) => listings::put_words(buffer, log, report.log_length),
-        Answer::NegativeCycle(report) => listings::put_words(buffer, log, report.log_length),
-        Answer::Refused(refusal) => put_refusal(buffer, refusal.number, refusal.place_of()),
+        Ok(report) | Err(Failure::NegativeCycle(report)) => {
+            listings::put_words(text, log, report.log_length);
+        }
+        Err(Failure::Refused(refusal)) => put_refusal(text, refusal.number(), refusal.place()),
     }
 }

@@ -2,46 +2,39 @@
 // Rests on answers, fields, headers, limits and plans.
 #![tactic(auto)]
 
-ghost use Rattle.std.specs.Prelude.{◌≡◌, ◌<◌, leb, length, drop};
+ghost use Rattle.std.specs.Prelude.{◌≡◌, ◌<◌, leb, length, drop, IfOk};
 ghost use Rattle.std.proofs.Math.Option.{none};
 ghost use Rattle.answers.specs.Refusal.{Weight, need, found};
-ghost use Rattle.plans.specs.Plan.{Accepted, word_count_of, every_kind};
+ghost use Rattle.plans.specs.Plan.{word_count_of, every_kind};
 ghost use Rattle.headers.specs.Figures.{Figured};
 ghost use Rattle.limits.specs.Word as Word;
 ghost use Rattle.limits.specs.Word.{placed_count};
 ghost use Rattle.limits.specs.Refusal.{log_length_of, room_for, asked_of, sizes_refusal, in_range, edge_refusal, sorted_refusal, entry_refusal, word_refusal, words_refusal, last_refusal, request_refusal};
 ghost use Rattle.limits.specs.Sizes.{sizes_told};
+ghost use Rattle.limits.specs.WithinLimits.{header_in};
 ghost use Rattle.requests.specs.Sizes.{told_by_sizes};
 
-use answers::{Checked, Refusal};
-use headers::{Figures, VerdictCell};
+use answers::Refusal;
+use headers::{AcceptedHeader, Figures, Method};
 use limits::Lengths;
-use plans::Header;
-
-#[derive(Clone, Copy)]
-pub enum Asked {
-    Needs(Lengths),
-    Refused(Refusal),
-}
 
 // ---- sizes that follow from the header
 
 // The words of the log: the plan's and the published one, where there is one.
-fn log_length(h: Header, f: Figures) -> usize
-    requires { Accepted h × Figured h f }
-    ensures { result ≡ log_length_of h }
+fn log_length(h: AcceptedHeader, f: Figures) -> usize
+    requires { Figured h.header f }
+    ensures { result ≡ log_length_of h.header }
 {
-    let verdict = f.verdict;
-    match verdict {
-        VerdictCell::At(_) => f.length + 1,
-        VerdictCell::Nothing => f.length,
+    match f.verdict {
+        Some(_) => f.length + 1,
+        None => f.length,
     }
 }
 
 // What a header asks for.
-fn lengths_of(h: Header, f: Figures) -> Lengths
-    requires { Accepted h × Figured h f }
-    ensures { result ≡ asked_of h }
+fn lengths_of(h: AcceptedHeader, f: Figures) -> Lengths
+    requires { Figured h.header f }
+    ensures { result ≡ asked_of h.header }
 {
     Lengths {
         cells: f.cells,
@@ -53,18 +46,15 @@ fn lengths_of(h: Header, f: Figures) -> Lengths
 }
 
 // The lengths that a header, whose first word alone is looked at, asks for.
-pub fn sizes_needed(header: &[u64]) -> Asked
+pub fn sizes_needed(header: &[u64]) -> Result<Lengths, Refusal>
     ensures { told_by_sizes result ≡ sizes_told header.now }
 {
-    if header.len() == 0 {
-        return Asked::Refused(answers::METHOD);
-    }
-    let h = headers::read_header(header[0]);
-    if let Checked::Refused(refusal) = headers::check_header(h) {
-        return Asked::Refused(refusal);
-    }
+    let [word, ..] = header else {
+        return Err(Refusal::Method);
+    };
+    let h = headers::check_header(headers::read_header(*word))?;
     let f = headers::figures_of(h);
-    Asked::Needs(lengths_of(h, f))
+    Ok(lengths_of(h, f))
 }
 
 // ---- refusals
@@ -73,35 +63,28 @@ pub fn sizes_needed(header: &[u64]) -> Asked
 fn results_enough(asked: Lengths, lent: Lengths) -> bool
     ensures { result ≡ every_kind (λ k. leb (room_for asked k) (room_for lent k)) }
 {
-    if lent.distances < asked.distances {
-        return false;
-    }
-    if lent.parents < asked.parents {
-        return false;
-    }
-    asked.route <= lent.route
+    asked.distances <= lent.distances && asked.parents <= lent.parents && asked.route <= lent.route
 }
 
 // 5 to 8.
-fn check_sizes(h: Header, words: usize, lent: Lengths) -> Checked
-    requires { Accepted h }
-    ensures { found result ≡ sizes_refusal h words lent }
+fn check_sizes(h: AcceptedHeader, words: usize, lent: Lengths) -> Result<(), Refusal>
+    ensures { found result ≡ sizes_refusal h.header words lent }
 {
     let f = headers::figures_of(h);
     let asked = lengths_of(h, f);
     if words != f.words {
-        return Checked::Refused(answers::WORDS);
+        return Err(Refusal::Words);
     }
     if lent.cells < asked.cells {
-        return Checked::Refused(answers::CELLS);
+        return Err(Refusal::Cells);
     }
     if lent.log < asked.log {
-        return Checked::Refused(answers::LOG);
+        return Err(Refusal::Log);
     }
     if !results_enough(asked, lent) {
-        return Checked::Refused(answers::RESULTS);
+        return Err(Refusal::Results);
     }
-    Checked::Accepted
+    Ok(())
 }
 
 // The weight (price) of a word.
@@ -112,129 +95,110 @@ pub fn weight(word: u64) -> i64
 }
 
 // 11, of a weight that is to be from `least` to the greatest.
-fn check_weight(least: i64, place: usize, word: u64) -> Checked
+fn check_weight(least: i64, place: usize, word: u64) -> Result<(), Refusal>
     ensures { found result ≡ need (in_range least word) (Weight place) none }
 {
     let value = weight(word);
-    if value < least {
-        return Checked::Refused(Refusal::at(answers::WEIGHT, place));
+    if value < least || plans::MOST_WEIGHT < value {
+        return Err(Refusal::Weight(place));
     }
-    if plans::MOST_WEIGHT < value {
-        return Checked::Refused(Refusal::at(answers::WEIGHT, place));
-    }
-    Checked::Accepted
+    Ok(())
 }
 
 // An edge of n vertices: 10, 13, 14 and 11.
-fn check_edge(n: u64, place: usize, word: u64) -> Checked
+fn check_edge(n: u64, place: usize, word: u64) -> Result<(), Refusal>
     ensures { found result ≡ edge_refusal n place word }
 {
     if fields::field(word, 32, 16) != 0 {
-        return Checked::Refused(Refusal::at(answers::SPARE_BITS, place));
+        return Err(Refusal::SpareBits(place));
     }
     if n <= fields::field(word, 56, 8) {
-        return Checked::Refused(Refusal::at(answers::FROM_VERTEX, place));
+        return Err(Refusal::FromVertex(place));
     }
     if n <= fields::field(word, 48, 8) {
-        return Checked::Refused(Refusal::at(answers::TO_VERTEX, place));
+        return Err(Refusal::ToVertex(place));
     }
     check_weight(-plans::MOST_WEIGHT, place, word)
 }
 
 // An edge of n vertices that comes after another: 10, 13, 14 and 11, then 15 where it leads to a lower vertex than that one.
-fn check_sorted(n: u64, place: usize, before: u64, word: u64) -> Checked
+fn check_sorted(n: u64, place: usize, before: u64, word: u64) -> Result<(), Refusal>
     ensures { found result ≡ sorted_refusal n place before word }
 {
-    if let Checked::Refused(refusal) = check_edge(n, place, word) {
-        return Checked::Refused(refusal);
-    }
+    check_edge(n, place, word)?;
     if fields::field(word, 48, 8) < fields::field(before, 48, 8) {
-        return Checked::Refused(Refusal::at(answers::UNSORTED, place));
+        return Err(Refusal::Unsorted(place));
     }
-    Checked::Accepted
+    Ok(())
 }
 
 // An entry of the table: 10 and 11.
-fn check_entry(place: usize, word: u64) -> Checked
+fn check_entry(place: usize, word: u64) -> Result<(), Refusal>
     ensures { found result ≡ entry_refusal place word }
 {
-    if fields::field(word, 32, 32) == 0 {
-        return check_weight(plans::NO_EDGE, place, word);
+    if fields::field(word, 32, 32) != 0 {
+        return Err(Refusal::SpareBits(place));
     }
-    Checked::Refused(Refusal::at(answers::SPARE_BITS, place))
+    check_weight(plans::NO_EDGE, place, word)
 }
 
 // The word at a place, by the method; `before` is the one before it.
-fn check_word(h: Header, place: usize, before: u64, word: u64) -> Checked
-    requires { Accepted h }
-    ensures { found result ≡ word_refusal h place before word }
+fn check_word(h: AcceptedHeader, place: usize, before: u64, word: u64) -> Result<(), Refusal>
+    ensures { found result ≡ word_refusal h.header place before word }
 {
-    let method = h.method;
-    match method {
-        2 => check_entry(place, word),
-        3 => check_sorted(h.vertices, place, before, word),
-        _ => check_edge(h.vertices, place, word),
+    match headers::method_of(h) {
+        Method::Dijkstra => check_entry(place, word),
+        Method::Jacobi => check_sorted(h.header.vertices, place, before, word),
+        _ => check_edge(h.header.vertices, place, word),
     }
 }
 
-// Words upward from place 0; the header is before it. Before the first word stands 0, so that every word has one before it.
-fn check_words(h: Header, request: &[u64]) -> Checked
-    requires { Accepted h × (0 < length request.now) }
-    ensures { found result ≡ words_refusal h 0 0 (drop 1 request.now) }
+// Words upward from place 0, without the header. Before the first word stands 0, so that every word has one before it.
+fn check_words(h: AcceptedHeader, words: &[u64]) -> Result<(), Refusal>
+    ensures { found result ≡ words_refusal h.header 0 0 words.now }
 {
-    let mut before: u64 = 0;
-    let mut k: usize = 1;
-    while k < request.len() {
-        let word = request[k];
-        if let Checked::Refused(refusal) = check_word(h, k - 1, before, word) {
-            return Checked::Refused(refusal);
-        }
-        before = word;
-        k += 1;
+    let mut before = 0;
+    for (place, word) in words.iter().enumerate() {
+        check_word(h, place, before, *word)?;
+        before = *word;
     }
-    Checked::Accepted
+    Ok(())
 }
 
 // How many words have a place, an edge's or an entry's each.
-fn placed_count(h: Header) -> usize
-    requires { Accepted h }
-    ensures { result ≡ placed_count h.method h.vertices h.edges }
+fn placed_count(h: AcceptedHeader) -> usize
+    ensures { result ≡ placed_count h.header.method h.header.vertices h.header.edges }
 {
-    if h.method == 2 {
-        return (h.vertices * h.vertices) as usize;
+    match headers::method_of(h) {
+        Method::Dijkstra => (h.header.vertices * h.header.vertices) as usize,
+        _ => h.header.edges as usize,
     }
-    h.edges as usize
 }
 
 // 16: method 5's destination, the word after the edges.
-fn check_last(h: Header, request: &[u64]) -> Checked
-    requires { Accepted h × (length (drop 1 request.now) ≡ word_count_of h) }
-    ensures { found result ≡ last_refusal h (drop 1 request.now) }
+fn check_last(h: AcceptedHeader, words: &[u64]) -> Result<(), Refusal>
+    requires { length words.now ≡ word_count_of h.header }
+    ensures { found result ≡ last_refusal h.header words.now }
 {
-    if h.method == 5 {
-        if h.vertices <= request[h.edges as usize + 1] {
-            return Checked::Refused(answers::DESTINATION);
-        }
+    let Method::Routed = headers::method_of(h) else {
+        return Ok(());
+    };
+    if h.header.vertices <= words[h.header.edges as usize] {
+        return Err(Refusal::Destination);
     }
-    Checked::Accepted
+    Ok(())
 }
 
-// The first refusal of a request, by the lengths of the lent buffers.
-pub fn check(request: &[u64], lent: Lengths) -> Checked
-    ensures { found result ≡ request_refusal request.now lent }
+// The first refusal of a request, by the lengths of the lent buffers, or its header as one that is accepted.
+pub fn check(request: &[u64], lent: Lengths) -> Result<AcceptedHeader, Refusal>
+    ensures { (found result ≡ request_refusal request.now lent) × IfOk result (λ accepted. accepted.header ≡ header_in request.now) }
 {
-    if request.len() == 0 {
-        return Checked::Refused(answers::METHOD);
-    }
-    let h = headers::read_header(request[0]);
-    if let Checked::Refused(refusal) = headers::check_header(h) {
-        return Checked::Refused(refusal);
-    }
-    if let Checked::Refused(refusal) = check_sizes(h, request.len() - 1, lent) {
-        return Checked::Refused(refusal);
-    }
-    if let Checked::Refused(refusal) = check_words(h, &request[..placed_count(h) + 1]) {
-        return Checked::Refused(refusal);
-    }
-    check_last(h, request)
+    let [header, words @ ..] = request else {
+        return Err(Refusal::Method);
+    };
+    let h = headers::check_header(headers::read_header(*header))?;
+    check_sizes(h, words.len(), lent)?;
+    check_words(h, &words[..placed_count(h)])?;
+    check_last(h, words)?;
+    Ok(h)
 }

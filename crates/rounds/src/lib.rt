@@ -1,79 +1,77 @@
 // The rounds of a header's plan, by its method.
-// Rests on the header of plans, on ops, and on headers for how large the figures get.
+// Rests on headers, for accepted ones, the methods and how large the figures get, and on plans.
 #![tactic(auto)]
 
 ghost use Rattle.std.specs.Prelude.{◌≡◌};
-ghost use Rattle.plans.specs.Plan.{Accepted, rounds_of_plan};
+ghost use Rattle.plans.specs.Plan.{rounds_of_plan};
 
-use plans::Header;
+use headers::{AcceptedHeader, Method};
 
-fn method1(h: Header) -> u64
-    requires { Accepted h × (h.method ≡ 1) }
-    ensures { result ≡ rounds_of_plan h }
+fn method1(h: AcceptedHeader) -> u64
+    requires { h.header.method ≡ 1 }
+    ensures { result ≡ rounds_of_plan h.header }
 {
-    let n = h.vertices;
-    let m = h.edges;
+    let n = h.header.vertices;
+    let m = h.header.edges;
     if m == 0 {
         return 2;
     }
     m * (n * n + 9 * n - 9) + n + 16
 }
 
-fn method2(h: Header) -> u64
-    requires { Accepted h × (h.method ≡ 2) }
-    ensures { result ≡ rounds_of_plan h }
+fn method2(h: AcceptedHeader) -> u64
+    requires { h.header.method ≡ 2 }
+    ensures { result ≡ rounds_of_plan h.header }
 {
-    let n = h.vertices;
+    let n = h.header.vertices;
     9 * (n * n) + 13 * n + 1
 }
 
-fn method3(h: Header) -> u64
-    requires { Accepted h × (h.method ≡ 3) }
-    ensures { result ≡ rounds_of_plan h }
+fn method3(h: AcceptedHeader) -> u64
+    requires { h.header.method ≡ 3 }
+    ensures { result ≡ rounds_of_plan h.header }
 {
-    let n = h.vertices;
-    let m = h.edges;
+    let n = h.header.vertices;
+    let m = h.header.edges;
     if m == 0 {
         return 8 * n + 1;
     }
     9 * (n * m) + n * n + 8 * n + 7
 }
 
-fn method4(h: Header) -> u64
-    requires { Accepted h × (h.method ≡ 4) }
-    ensures { result ≡ rounds_of_plan h }
+fn method4(h: AcceptedHeader) -> u64
+    requires { h.header.method ≡ 4 }
+    ensures { result ≡ rounds_of_plan h.header }
 {
-    let n = h.vertices;
-    let m = h.edges;
+    let n = h.header.vertices;
+    let m = h.header.edges;
     if m == 0 {
         return 7 * n + 9;
     }
     7 * n + 7 * m + 16
 }
 
-fn method5(h: Header) -> u64
-    requires { Accepted h × (h.method ≡ 5) }
-    ensures { result ≡ rounds_of_plan h }
+fn method5(h: AcceptedHeader) -> u64
+    requires { h.header.method ≡ 5 }
+    ensures { result ≡ rounds_of_plan h.header }
 {
-    let n = h.vertices;
-    let m = h.edges;
+    let n = h.header.vertices;
+    let m = h.header.edges;
     if m == 0 {
-        return ops::greater(2, n * n + 5 * n - 5);
+        return u64::max(2, n * n + 5 * n - 5);
     }
-    m * ((n - 1) * (n + 9)) + ops::greater(m * n + n + 16, m + n * n + 5 * n + 1)
+    m * ((n - 1) * (n + 9)) + u64::max(m * n + n + 16, m + n * n + 5 * n + 1)
 }
 
 // The rounds of the header's plan, and so of every run of it.
-pub fn rounds_of(h: Header) -> u64
-    requires { Accepted h }
-    ensures { result ≡ rounds_of_plan h }
+pub fn rounds_of(h: AcceptedHeader) -> u64
+    ensures { result ≡ rounds_of_plan h.header }
 {
-    let method = h.method;
-    match method {
-        1 => method1(h),
-        2 => method2(h),
-        3 => method3(h),
-        4 => method4(h),
-        _ => method5(h),
+    match headers::method_of(h) {
+        Method::BellmanFord => method1(h),
+        Method::Dijkstra => method2(h),
+        Method::Jacobi => method3(h),
+        Method::FloydWarshall => method4(h),
+        Method::Routed => method5(h),
     }
 }

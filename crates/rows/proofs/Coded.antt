@@ -11,12 +11,11 @@ use lib.IntN.{nat_abs}
 use lib.ListN.{length, get_or, get_or-eq_default}
 use lib.Pow.{split, shr-shr, mod-mod-pow}
 use Rattle.fields.specs.Fields.{field_of, join_of}
-use Rattle.machine.specs.Instruction.{All}
 use Rattle.machine.specs.Word.{op_field, b_field, packed, packed_set}
 use Rattle.plans.specs.Limits.{far}
-use Rattle.rows.specs.declared.Row.{Row}
-use Rattle.rows.specs.Code.{place_of, step_of, flags_of, set_number, set_other, set_step, word_step, set_row, instruction_row, row_of_code}
-use Rattle.rows.specs.Rows.{loop_row}
+use Rattle.rows.specs.declared.Moving.{Moving}
+use Rattle.rows.specs.declared.Row.TheVariants.{Word, Loop}
+use Rattle.rows.specs.Code.{place_of, step_of, flags_of, set_number, set_other, set_step, word_step, set_row, instruction_row, over_of, row_of_code}
 
 -- ---- flags
 
@@ -65,15 +64,7 @@ unfolding flags_of word_step
 word_step_is n l code e h =
     rw (e, h, step_is n l 40 code, step_is n l 20 code, step_is n l 0 code) (spread n _ _ _ _ _ _)
 
-pub times_at_most : (bound w f : ℕ) → w < 2 ^ 19 → f ≤ bound → w * f ≤ 2 ^ 19 * bound
-times_at_most bound w f h l = mul-le-mul {n₁ = w} {m₁ = f} {n₂ = 2 ^ 19} {m₂ = bound} (omega arith) l
-
 -- ---- operands
-
-pub entry_small : (env : List ℕ) (i : ℕ) → All (λ x. x < 2 ^ 19) env → get_or env i 0 < 2 ^ 19
-entry_small [] i h = omega arith
-entry_small (x ∷ env) zero h = h.0
-entry_small (x ∷ env) (suc i) h = entry_small env i h.1
 
 module _ (env : List ℕ) (s code : ℕ) {i y : ℕ} (index : i ≡ field_of (11 + s) 5 code) (offset : y ≡ field_of s 5 code) where
   pub place_in : get_or env i 0 + y ≡ place_of env s code
@@ -117,27 +108,24 @@ set_step_is n code l e f g = rw (step_is n l 40 code, e, f, g)
 -- ---- rows
 
 pub same_row : {b c o p m q i r x y : ℕ} → b ≡ c → o ≡ p → m ≡ q → i ≡ r → x ≡ y
-    → ◌≡◌ {A = Row} (record { kind = 0; base = b; outer = o; middle = m; inner = i; other = x })
-    (record { kind = 0; base = c; outer = p; middle = q; inner = r; other = y })
+    → ◌≡◌ {A = Moving} (record { base = b; outer = o; middle = m; inner = i; other = x })
+    (record { base = c; outer = p; middle = q; inner = r; other = y })
 same_row e f g h j = rw (e, f, g, h, j)
-
-pub same_word : (op : ℕ) {d e a f b g : ℕ} → d ≡ e → a ≡ f → b ≡ g → packed op d a b ≡ packed op e f g
-same_word op h i j = rw (h, i, j)
 
 pub same_set : {d e r s : ℕ} → d ≡ e → r ≡ s → join_of d r 40 ≡ packed_set e s
 unfolding packed_set
 same_set f g = rw (f, g)
 
 module _ (n : ℕ) (env : List ℕ) (code : ℕ) {op : ℕ} (is : op ≡ op_field code) where
-  pub set_code : op ≡ 0 → set_row n env code ≡ row_of_code n env code
+  pub set_code : {x : Moving} → op ≡ 0 → x ≡ set_row n env code → Word x ≡ row_of_code n env code
   unfolding row_of_code
-  set_code e = rw (← is, e)
+  set_code e f = rw (← is, e, f)
 
-  pub word_code : 0 < op → op < 8 → instruction_row n env code op ≡ row_of_code n env code
+  pub word_code : {x : Moving} → 0 < op → op < 8 → x ≡ instruction_row n env code op → Word x ≡ row_of_code n env code
   unfolding row_of_code
-  word_code p h = rw (← is, ne_eqb op 0 (λ e. omega arith), lt-ltb op 8 h)
+  word_code p h f = rw (← is, ne_eqb op 0 (λ e. omega arith), lt-ltb op 8 h, f)
 
   pub loop_code : {count size : ℕ} → 8 ≤ op → count ≡ place_of env 20 code → size ≡ b_field code
-      → loop_row (op - 7) count size ≡ row_of_code n env code
+      → Loop (over_of op) count size ≡ row_of_code n env code
   unfolding row_of_code
   loop_code h e f = rw (← is, ne_eqb op 0 (λ e. omega arith), le-ltb op 8 h, e, f)

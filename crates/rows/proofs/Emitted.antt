@@ -18,9 +18,12 @@ use Rattle.plans.specs.Blocks.{flat}
 use Rattle.plans.specs.Regions.{address}
 use Rattle.plans.specs.Outline.{Level, outer, middle, inner, counter, counted_to, Count, vertices, others, edges, times, times_of, Spot, fixed, at, after, entry, spot_of, Cell, cell_of, Number, small, minus_one, unreached, counted, from_source, number_of, Line, set, copy, add, less, equal, both, moveif, opens, instruction_of, Outline, end, line, run, each, again, instructions}
 use Rattle.plans.proofs.Blocks.{flat_same, map_flat}
+use Rattle.rows.specs.declared.Over.{Over}
+use Rattle.rows.specs.declared.Over.TheVariants.{Nothing, Run}
 use Rattle.rows.specs.declared.Row.{Row}
-use Rattle.rows.specs.Table.{word_of, turned, expand, Inside}
-use Rattle.rows.specs.Rows.{env_of, same, offset, once, rowwise, base_of, stride_of, raw_of, raw_step, raw_other, word_row, loop_row, row_of, count_of, kind_of, rows_of}
+use Rattle.rows.specs.declared.Row.TheVariants.{Loop}
+use Rattle.rows.specs.Table.{word_of, moving_of, turned, is_run, expand, Inside}
+use Rattle.rows.specs.Rows.{env_of, same, offset, once, rowwise, base_of, stride_of, raw_of, raw_step, raw_other, word_row, word_of_line, row_of, count_of, over_level, rows_of}
 
 -- ---- numbers that move with the counters
 
@@ -127,60 +130,49 @@ loop_words word count turns f g rest c e w =
 
 -- ---- rows
 
-level_kind : (l : Level)
-    → (eqb (kind_of l) 0 ≡ false) × (eqb (kind_of l) 5 ≡ false) × ((j : ℕ) (k : Counters) → turned (kind_of l) j k ≡ counted_to l j k)
-level_kind outer = (refl, refl, λ j k. refl)
-level_kind middle = (refl, refl, λ j k. refl)
-level_kind inner = (refl, refl, λ j k. refl)
+over_counts : (l : Level) → (is_run (over_level l) ≡ false) × ((j : ℕ) (k : Counters) → turned (over_level l) j k ≡ counted_to l j k)
+over_counts outer = (refl, λ j k. refl)
+over_counts middle = (refl, λ j k. refl)
+over_counts inner = (refl, λ j k. refl)
 
 -- A loop over xs, and ys after it.
-module _ (d kind count : ℕ) (xs ys : List Row) (not_word : eqb kind 0 ≡ false) where
-  loop_expands : (source : ℕ) (k : Counters) → eqb kind 5 ≡ false
-      → expand source (suc d) (loop_row kind count (length xs) ∷ (xs ++ ys)) k
-      ≡ flat count (λ j. expand source d xs (turned kind j k)) ++ expand source d ys k
+module _ (d : ℕ) (over : Over) (count : ℕ) (xs ys : List Row) where
+  loop_expands : (source : ℕ) (k : Counters) → is_run over ≡ false
+      → expand source (suc d) (Loop over count (length xs) ∷ (xs ++ ys)) k
+      ≡ flat count (λ j. expand source d xs (turned over j k)) ++ expand source d ys k
   unfolding expand
-  loop_expands source k not_run = rw (not_word, not_run, take-append_seam xs ys, drop-append_seam xs ys)
+  loop_expands source k not_run = rw (not_run, take-append_seam xs ys, drop-append_seam xs ys)
 
-  loop_inside : (size : ℕ) → length xs ≡ size → Inside d xs → Inside d ys → Inside (suc d) (loop_row kind count size ∷ (xs ++ ys))
+  loop_inside : (size : ℕ) → length xs ≡ size → Inside d xs → Inside d ys → Inside (suc d) (Loop over count size ∷ (xs ++ ys))
   unfolding Inside
   loop_inside size e a b =
-      rw (not_word, Inside, take_at xs ys size e, drop_at xs ys size e) (omega (arith, length-append xs ys), a, b)
+      rw (take_at xs ys size e, drop_at xs ys size e) (omega (arith, length-append xs ys), a, b)
 
 module _ (n : ℕ) (env : List ℕ) where
-  word_kind : (x : Line) → (row_of n env x).kind ≡ 0
-  word_kind (set d z) = refl
-  word_kind (copy d a) = refl
-  word_kind (add d a b) = refl
-  word_kind (less d a b) = refl
-  word_kind (equal d a b) = refl
-  word_kind (both d a b) = refl
-  word_kind (moveif d a b) = refl
-  word_kind (opens a) = refl
-
   words_inside : (ls : List Line) (d : ℕ) → Inside d (map (row_of n env) ls)
   unfolding Inside
   words_inside [] zero = tt
   words_inside [] (suc d) = tt
   words_inside (x ∷ ls) zero = tt
-  words_inside (x ∷ ls) (suc d) = rw (word_kind x, Inside) (words_inside ls d)
+  words_inside (x ∷ ls) (suc d) = words_inside ls d
 
   pub inside : (o : Outline) (d : ℕ) → length (rows_of n env o) ≤ d → Inside d (rows_of n env o)
   unfolding Inside rows_of
   inside o zero h = tt
   inside end (suc d) h = tt
-  inside (line x p) (suc d) h = rw (word_kind x, Inside) (inside p d (le_of_suc-le-suc h))
+  inside (line x p) (suc d) h = inside p d (le_of_suc-le-suc h)
   inside (run c ls p) (suc d) h =
       let xs = map (row_of n env) ls in
       let long = length-append xs (rows_of n env p) in
-      loop_inside d 5 (count_of n env c) xs (rows_of n env p) refl (length ls) (length-map ls (row_of n env))
+      loop_inside d Run (count_of n env c) xs (rows_of n env p) (length ls) (length-map ls (row_of n env))
       (words_inside ls d) (inside p d (omega arith))
   inside (each l c b p) (suc d) h =
       let long = length-append (rows_of n env b) (rows_of n env p) in
-      loop_inside d (kind_of l) (count_of n env c) (rows_of n env b) (rows_of n env p) (level_kind l).0 (length (rows_of n env b)) refl
+      loop_inside d (over_level l) (count_of n env c) (rows_of n env b) (rows_of n env p) (length (rows_of n env b)) refl
       (inside b d (omega arith)) (inside p d (omega arith))
   inside (again c b p) (suc d) h =
       let long = length-append (rows_of n env b) (rows_of n env p) in
-      loop_inside d 4 (count_of n env c) (rows_of n env b) (rows_of n env p) refl (length (rows_of n env b)) refl
+      loop_inside d Nothing (count_of n env c) (rows_of n env b) (rows_of n env p) (length (rows_of n env b)) refl
       (inside b d (omega arith)) (inside p d (omega arith))
 
 -- ---- an outline
@@ -198,7 +190,7 @@ module _ (n m source : ℕ) (starts : List ℕ) where
       record { is = omega (arith, region_at n m starts r, (spot_moves {k = k} n s).is) }
 
   pub row_word : (k : Counters) (x : Line)
-      → word_of source (row_of n env x) k ≡ encode (instruction_of (address starts) far n m source k x)
+      → word_of source (word_of_line n env x) k ≡ encode (instruction_of (address starts) far n m source k x)
   row_word k (set d z) = number_word source k z (cell_moves k d)
   row_word k (copy d a) = three_word source k 1 (cell_moves k d) (cell_moves k a) (still 0)
   row_word k (add d a b) = three_word source k 2 (cell_moves k d) (cell_moves k a) (cell_moves k b)
@@ -209,7 +201,7 @@ module _ (n m source : ℕ) (starts : List ℕ) where
   row_word k (opens a) = three_word source k 7 (still 0) (cell_moves k a) (still 0)
 
   run_words : (k : Counters) (ls : List Line)
-      → map (λ y. word_of source y k) (map (row_of n env) ls) ≡ map encode (map (instruction_of (address starts) far n m source k) ls)
+      → map (λ y. word_of source (moving_of y) k) (map (row_of n env) ls) ≡ map encode (map (instruction_of (address starts) far n m source k) ls)
   run_words k [] = refl
   run_words k (x ∷ ls) = rw (row_word k x, run_words k ls)
 
@@ -225,7 +217,7 @@ module _ (n m source : ℕ) (starts : List ℕ) where
   emits end k zero h = refl
   emits end k (suc d) h = refl
   emits (line x p) k zero h = absurd (not-suc-le-zero h)
-  emits (line x p) k (suc d) h = rw (word_kind n env x, row_word k x, emits p k d (le_of_suc-le-suc h))
+  emits (line x p) k (suc d) h = rw (row_word k x, emits p k d (le_of_suc-le-suc h))
   emits (run c ls p) k zero h = absurd (not-suc-le-zero h)
   emits (run c ls p) k (suc d) h =
       let xs = map (row_of n env) ls in
@@ -235,14 +227,14 @@ module _ (n m source : ℕ) (starts : List ℕ) where
       (loop_words encode _ _ _ _ _ (count_is c) (λ j. run_words (counted_to inner j k) ls) (emits p k d (omega arith)))
   emits (each l c b p) k zero h = absurd (not-suc-le-zero h)
   emits (each l c b p) k (suc d) h =
-      let t = level_kind l in
+      let t = over_counts l in
       let long = length-append (rows_of n env b) (rows_of n env p) in
-      loop_expands d (kind_of l) (count_of n env c) (rows_of n env b) (rows_of n env p) t.0 source k t.1
+      loop_expands d (over_level l) (count_of n env c) (rows_of n env b) (rows_of n env p) source k t.0
       ∙ loop_words encode _ _ _ _ _ (count_is c)
-      (λ j. ap (expand source d (rows_of n env b)) (t.2 j k) ∙ emits b (counted_to l j k) d (omega arith)) (emits p k d (omega arith))
+      (λ j. ap (expand source d (rows_of n env b)) (t.1 j k) ∙ emits b (counted_to l j k) d (omega arith)) (emits p k d (omega arith))
   emits (again c b p) k zero h = absurd (not-suc-le-zero h)
   emits (again c b p) k (suc d) h =
       let long = length-append (rows_of n env b) (rows_of n env p) in
-      loop_expands d 4 (count_of n env c) (rows_of n env b) (rows_of n env p) refl source k refl
+      loop_expands d Nothing (count_of n env c) (rows_of n env b) (rows_of n env p) source k refl
       ∙ loop_words encode _ _ _ _ _ (count_is c)
       (λ j. emits b k d (omega arith)) (emits p k d (omega arith))

@@ -1,5 +1,4 @@
 pub mod Blocks
 pub mod Emitted
 pub mod Coded
-pub mod Memory
 pub mod Read

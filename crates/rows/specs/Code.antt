@@ -6,8 +6,13 @@ use Rattle.fields.specs.Fields.{field_of}
 use Rattle.machine.specs.Word.{op_field, b_field, packed, packed_set}
 use Rattle.plans.specs.Limits.{far}
 use Rattle.plans.specs.Outline.{Level, outer, middle, inner}
+use Rattle.rows.specs.declared.Moving.{Moving}
+use Rattle.rows.specs.declared.Over.{Over}
+use Rattle.rows.specs.declared.Level.TheVariants.{Outer, Middle, Inner}
+use Rattle.rows.specs.declared.Over.TheVariants.{Counter, Nothing, Run}
 use Rattle.rows.specs.declared.Row.{Row}
-use Rattle.rows.specs.Rows.{word_row, loop_row}
+use Rattle.rows.specs.declared.Row.TheVariants.{Word, Loop}
+use Rattle.rows.specs.Rows.{word_row}
 
 -- ---- the operand at a shift (d 40, a 20, b 0)
 
@@ -43,19 +48,23 @@ set_step n code l = packed_set (step_of n l 40 code) (field_of (25 + l) 1 code)
 unfoldable pub word_step : (n code level : ℕ) → ℕ
 word_step n code l = packed 0 (step_of n l 40 code) (step_of n l 20 code) (step_of n l 0 code)
 
+-- What a loop counts, by its op: 8, 9 and 10 a counter, 12 is a run, 11 and all others count nothing.
+abbrev pub over_of : (op : ℕ) → Over
+over_of op = cond (eqb op 8) (Counter Outer) (cond (eqb op 9) (Counter Middle) (cond (eqb op 10) (Counter Inner) (cond (eqb op 12) Run Nothing)))
+
 module _ (n : ℕ) (env : List ℕ) (code : ℕ) where
-  abbrev pub set_row : Row
+  abbrev pub set_row : Moving
   set_row =
       word_row (packed_set (place_of env 40 code) (set_number code)) (λ l. set_step n code (level_number l)) (set_other code)
 
-  abbrev pub instruction_row : (op : ℕ) → Row
+  abbrev pub instruction_row : (op : ℕ) → Moving
   instruction_row op =
       word_row (packed op (place_of env 40 code) (place_of env 20 code) (place_of env 0 code))
       (λ l. word_step n code (level_number l)) 0
 
-  -- SET, another instruction, or a loop of kind op - 7.
+  -- SET, another instruction, or a loop.
   unfoldable pub row_of_code : Row
   row_of_code =
-      cond (eqb (op_field code) 0) set_row
-      (cond (ltb (op_field code) 8) (instruction_row (op_field code))
-      (loop_row (op_field code - 7) (place_of env 20 code) (b_field code)))
+      cond (eqb (op_field code) 0) (Word set_row)
+      (cond (ltb (op_field code) 8) (Word (instruction_row (op_field code)))
+      (Loop (over_of (op_field code)) (place_of env 20 code) (b_field code)))

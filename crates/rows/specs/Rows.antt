@@ -4,7 +4,12 @@ use Rattle.std.specs.Prelude.{List, [], ◌∷◌, ◌++◌, map, ℕ, ◌+◌, 
 use Rattle.machine.specs.Word.{packed, packed_set}
 use Rattle.plans.specs.Limits.{far}
 use Rattle.plans.specs.Outline.{Level, outer, middle, inner, Count, vertices, others, edges, times, Spot, fixed, at, after, entry, Cell, Number, small, minus_one, unreached, counted, from_source, Line, set, copy, add, less, equal, both, moveif, opens, Outline, end, line, run, each, again}
+use Rattle.rows.specs.declared.Moving.{Moving}
+use Rattle.rows.specs.declared.Over.{Over}
+use Rattle.rows.specs.declared.Level.TheVariants.{Outer, Middle, Inner}
+use Rattle.rows.specs.declared.Over.TheVariants.{Counter, Nothing, Run}
 use Rattle.rows.specs.declared.Row.{Row}
+use Rattle.rows.specs.declared.Row.TheVariants.{Word, Loop}
 
 -- What an operand's first cell, or a count, is looked up in: 0, n, m, n - 1, and where the regions begin, as many as there are.
 abbrev pub env_of : (n m : ℕ) (starts : List ℕ) → List ℕ
@@ -75,33 +80,34 @@ raw_other from_source = nat_abs far
 -- ---- rows
 
 -- A word of an op and three fields at counters 0, and their steps.
-abbrev pub word_row : (base : ℕ) (step : Level → ℕ) (other : ℕ) → Row
-word_row base step other = record { kind = 0; base = base; outer = step outer; middle = step middle; inner = step inner; other = other }
+abbrev pub word_row : (base : ℕ) (step : Level → ℕ) (other : ℕ) → Moving
+word_row base step other = record { base = base; outer = step outer; middle = step middle; inner = step inner; other = other }
 
-abbrev pub loop_row : (kind count size : ℕ) → Row
-loop_row kind count size = record { kind = kind; base = count; outer = size; middle = 0; inner = 0; other = 0 }
-
-abbrev pub kind_of : Level → ℕ
-kind_of outer = 1
-kind_of middle = 2
-kind_of inner = 3
+abbrev pub over_level : Level → Over
+over_level outer = Counter Outer
+over_level middle = Counter Middle
+over_level inner = Counter Inner
 
 module _ (n : ℕ) (env : List ℕ) where
-  abbrev three_row : (op : ℕ) (d a b : Cell) → Row
+  abbrev three_row : (op : ℕ) (d a b : Cell) → Moving
   three_row op d a b =
       word_row (packed op (base_of env d) (base_of env a) (base_of env b))
       (λ l. packed 0 (stride_of n l d) (stride_of n l a) (stride_of n l b)) 0
 
-  abbrev pub row_of : Line → Row
-  row_of (set d z) =
+  abbrev pub word_of_line : Line → Moving
+  word_of_line (set d z) =
       word_row (packed_set (base_of env d) (raw_of z)) (λ l. packed_set (stride_of n l d) (raw_step l z)) (raw_other z)
-  row_of (copy d a) = word_row (packed 1 (base_of env d) (base_of env a) 0) (λ l. packed 0 (stride_of n l d) (stride_of n l a) 0) 0
-  row_of (add d a b) = three_row 2 d a b
-  row_of (less d a b) = three_row 3 d a b
-  row_of (equal d a b) = three_row 4 d a b
-  row_of (both d a b) = three_row 5 d a b
-  row_of (moveif d a b) = three_row 6 d a b
-  row_of (opens a) = word_row (packed 7 0 (base_of env a) 0) (λ l. packed 0 0 (stride_of n l a) 0) 0
+  word_of_line (copy d a) =
+      word_row (packed 1 (base_of env d) (base_of env a) 0) (λ l. packed 0 (stride_of n l d) (stride_of n l a) 0) 0
+  word_of_line (add d a b) = three_row 2 d a b
+  word_of_line (less d a b) = three_row 3 d a b
+  word_of_line (equal d a b) = three_row 4 d a b
+  word_of_line (both d a b) = three_row 5 d a b
+  word_of_line (moveif d a b) = three_row 6 d a b
+  word_of_line (opens a) = word_row (packed 7 0 (base_of env a) 0) (λ l. packed 0 0 (stride_of n l a) 0) 0
+
+  abbrev pub row_of : Line → Row
+  row_of x = Word (word_of_line x)
 
   -- An entry and a number, as in a cell.
   abbrev pub count_of : Count → ℕ
@@ -113,6 +119,6 @@ module _ (n : ℕ) (env : List ℕ) where
   unfoldable pub rows_of : Outline → List Row
   rows_of end = []
   rows_of (line x p) = row_of x ∷ rows_of p
-  rows_of (run c ls p) = loop_row 5 (count_of c) (length ls) ∷ (map row_of ls ++ rows_of p)
-  rows_of (each l c b p) = loop_row (kind_of l) (count_of c) (length (rows_of b)) ∷ (rows_of b ++ rows_of p)
-  rows_of (again c b p) = loop_row 4 (count_of c) (length (rows_of b)) ∷ (rows_of b ++ rows_of p)
+  rows_of (run c ls p) = Loop Run (count_of c) (length ls) ∷ (map row_of ls ++ rows_of p)
+  rows_of (each l c b p) = Loop (over_level l) (count_of c) (length (rows_of b)) ∷ (rows_of b ++ rows_of p)
+  rows_of (again c b p) = Loop Nothing (count_of c) (length (rows_of b)) ∷ (rows_of b ++ rows_of p)

@@ -2,18 +2,13 @@
 // One set of functions for every method. Rests on plans (outlines), ops and fields.
 #![tactic(auto)]
 
-ghost use Rattle.std.specs.Prelude.{◌≡◌, [], ◌∷◌, ◌++◌, map, ◌+◌, ◌*◌, ◌^◌, ◌<◌, ◌≤◌, length};
+ghost use Rattle.std.specs.Prelude.{◌≡◌, map, ◌+◌, ◌^◌, ◌<◌, ◌≤◌, length, take, slice_index, EachIndex};
 ghost use Rattle.machine.specs.Instruction.{All};
-ghost use Rattle.rows.specs.Table.{rows_in};
-ghost use Rattle.rows.specs.Code.{place_of, flags_of, set_number, set_other, set_step, word_step, set_row, instruction_row, row_of_code};
+ghost use Rattle.rows.specs.Code.{place_of, flags_of, set_number, set_other, set_step, word_step, set_row, instruction_row, over_of, row_of_code};
 
-// A row of a table.
-// kind 0, a word: where the counters are 0, what a step of each counter adds, and what is added unless the inner counter is the source.
-// kinds 1 to 5, a loop over the `outer` rows that follow, which turns `base` times: over the outer counter (1), the middle one (2), the
-// inner one (3), over none (4), and over the inner one where all its rows are words (5).
+// A word that moves with the counters: where they are 0, what a step of each adds, and what is added unless the inner counter is the source.
 #[derive(Clone, Copy)]
-pub struct Row {
-    pub kind: u64,
+pub struct Moving {
     pub base: u64,
     pub outer: u64,
     pub middle: u64,
@@ -21,7 +16,40 @@ pub struct Row {
     pub other: u64,
 }
 
+// The counters of the loops around a row, the outermost first.
+#[derive(Clone, Copy)]
+pub enum Level {
+    Outer,
+    Middle,
+    Inner,
+}
+
+// What a loop counts: a counter, nothing, or the inner counter where all its rows are words, a run.
+#[derive(Clone, Copy)]
+pub enum Over {
+    Counter(Level),
+    Nothing,
+    Run,
+}
+
+// A row of a table: a word, or a loop over the `rows` rows that follow, which turns `turns` times.
+#[derive(Clone, Copy)]
+pub enum Row {
+    Word(Moving),
+    Loop { over: Over, turns: u64, rows: usize },
+}
+
+// A word of nothing, for a table that is not filled yet.
+pub const EMPTY: Row = Row::Word(Moving {
+    base: 0,
+    outer: 0,
+    middle: 0,
+    inner: 0,
+    other: 0,
+});
+
 // ---- a plan's lines: op << 60 | d << D_ | a << A_ | b, like an operation word, and loops
+// Numbers, not an enum: one word a line, as a document's line reads, and its row is made of many bits of it at once.
 
 pub const SET: u64 = 0 << 60;
 
@@ -93,19 +121,6 @@ const ONES: u64 = 1099512676353;
 
 // ---- operands
 
-// The operand at a shift, where the counters are 0: an entry of env, 0 where there is none, and an offset.
-fn place(env: &[u64], code: u64, shift: u32) -> u64
-    requires { (shift ≤ 40) × All (λ x. x < 2 ^ 19) env.now }
-    ensures { (result ≡ place_of env.now shift code) × (result < 2 ^ 20) }
-{
-    let offset = fields::field(code, shift, 5);
-    let k = fields::field(code, 11 + shift, 5) as usize;
-    if k < env.len() {
-        return env[k] + offset;
-    }
-    offset
-}
-
 // One bit of each operand.
 fn flags(code: u64, bit: u32) -> u64
     requires { bit < 20 }
@@ -114,43 +129,15 @@ fn flags(code: u64, bit: u32) -> u64
     (code >> bit) & ONES
 }
 
-// ---- words
-
-// What a step of a counter adds to the operands.
-fn word_step(width: u64, code: u64, level: u32) -> u64
-    requires { (width < 2 ^ 19) × (level < 3) }
-    ensures { result ≡ word_step width code level }
-{
-    flags(code, 5 + level) + width * flags(code, 8 + level)
-}
-
-fn word_row(width: u64, env: &[u64], code: u64, op: u64) -> Row
-    requires { (width < 2 ^ 19) × All (λ x. x < 2 ^ 19) env.now × (op < 2 ^ 4) }
-    ensures { result ≡ instruction_row width env.now code op }
-{
-    let d = place(env, code, 40);
-    let a = place(env, code, 20);
-    let b = place(env, code, 0);
-    Row {
-        kind: 0,
-        base: ops::pack(op, d, a, b),
-        outer: word_step(width, code, 0),
-        middle: word_step(width, code, 1),
-        inner: word_step(width, code, 2),
-        other: 0,
-    }
-}
-
-// ---- SET
-
+// SET's number.
 fn number_of(code: u64) -> u64
     ensures { (result ≡ set_number code) × (result < 2 ^ 40) }
 {
     let b = fields::field(code, 0, 20);
     match b {
         0 => fields::field(code, 20, 5),
-        1 => FAR,
-        2 => RAW_MINUS_ONE,
+        UNREACHED => FAR,
+        MINUS_ONE => RAW_MINUS_ONE,
         _ => 0,
     }
 }
@@ -159,80 +146,123 @@ fn other_of(code: u64) -> u64
     ensures { result ≡ set_other code }
 {
     let b = fields::field(code, 0, 20);
-    if b == 3 { FAR } else { 0 }
+    if b == FROM_SOURCE { FAR } else { 0 }
 }
 
-// What a step of a counter adds to the cell and to the number.
-fn set_step(width: u64, code: u64, level: u32) -> u64
-    requires { (width < 2 ^ 19) × (level < 3) }
-    ensures { result ≡ set_step width code level }
+// What a loop's line counts.
+fn over_of(op: u64) -> Over
+    ensures { result ≡ over_of op }
 {
-    let once = fields::field(code, 5 + level + 40, 1);
-    let rows = fields::field(code, 8 + level + 40, 1);
-    fields::join(once + width * rows, fields::field(code, 25 + level, 1), 40)
-}
-
-fn set_row(width: u64, env: &[u64], code: u64) -> Row
-    requires { (width < 2 ^ 19) × All (λ x. x < 2 ^ 19) env.now }
-    ensures { result ≡ set_row width env.now code }
-{
-    Row {
-        kind: 0,
-        base: fields::join(place(env, code, 40), number_of(code), 40),
-        outer: set_step(width, code, 0),
-        middle: set_step(width, code, 1),
-        inner: set_step(width, code, 2),
-        other: other_of(code),
+    match op {
+        8 => Over::Counter(Level::Outer),
+        9 => Over::Counter(Level::Middle),
+        10 => Over::Counter(Level::Inner),
+        12 => Over::Run,
+        _ => Over::Nothing,
     }
 }
 
 // ---- lines
 
-// The row of a line.
-fn row_of(width: u64, env: &[u64], code: u64) -> Row
-    requires { (width < 2 ^ 19) × All (λ x. x < 2 ^ 19) env.now }
-    ensures { result ≡ row_of_code width env.now code }
-{
-    let op = fields::field(code, 60, 4);
-    if op == 0 {
-        return set_row(width, env, code);
-    }
-    if op < 8 {
-        return word_row(width, env, code, op);
-    }
-    Row {
-        kind: op - 7,
-        base: place(env, code, 20),
-        outer: fields::field(code, 0, 20),
-        middle: 0,
-        inner: 0,
-        other: 0,
-    }
+// What lines are made ready for: n, and what a count or an operand's first cell is looked up in.
+#[derive(Clone, Copy)]
+struct Places<'a> {
+    width: u64,
+    env: &'a [u64],
+    ghost narrow: { width < 2 ^ 19 },
+    ghost near: { EachIndex env.now (λ i. slice_index env.now i < 2 ^ 19) },
 }
 
-// One row more.
-fn put(table: &mut [u64], rows: usize, row: Row)
-    requires { 6 * rows + 6 ≤ length table.old }
-    ensures { (length table.new ≡ length table.old) × (rows_in table.new 0 (rows + 1) ≡ rows_in table.old 0 rows ++ (row ∷ [])) }
-{
-    let at = 6 * rows;
-    table[at] = row.kind;
-    table[at + 1] = row.base;
-    table[at + 2] = row.outer;
-    table[at + 3] = row.middle;
-    table[at + 4] = row.inner;
-    table[at + 5] = row.other;
+impl Places<'_> {
+    // The operand at a shift, where the counters are 0: an entry of env, 0 where there is none, and an offset.
+    fn place(&self, code: u64, shift: u32) -> u64
+        requires { shift ≤ 40 }
+        ensures { (result ≡ place_of self.now.env.now shift code) × (result < 2 ^ 20) }
+    {
+        let offset = fields::field(code, shift, 5);
+        let k = fields::field(code, 11 + shift, 5) as usize;
+        if k < self.env.len() {
+            return self.env[k] + offset;
+        }
+        offset
+    }
+
+    // Words and SETs apart: a word packs three operands of 20 bits, a SET a cell of 20 and a number of 40.
+
+    // What a step of a counter adds to the operands.
+    fn word_step(&self, code: u64, level: u32) -> u64
+        requires { level < 3 }
+        ensures { result ≡ word_step self.now.width code level }
+    {
+        flags(code, 5 + level) + self.width * flags(code, 8 + level)
+    }
+
+    // What a step of a counter adds to SET's cell and to its number.
+    fn set_step(&self, code: u64, level: u32) -> u64
+        requires { level < 3 }
+        ensures { result ≡ set_step self.now.width code level }
+    {
+        let once = fields::field(code, 5 + level + 40, 1);
+        let rows = fields::field(code, 8 + level + 40, 1);
+        fields::join(
+            once + self.width * rows,
+            fields::field(code, 25 + level, 1),
+            40,
+        )
+    }
+
+    fn instruction(&self, code: u64, op: u64) -> Moving
+        requires { op < 2 ^ 4 }
+        ensures { result ≡ instruction_row self.now.width self.now.env.now code op }
+    {
+        let d = self.place(code, 40);
+        let a = self.place(code, 20);
+        let b = self.place(code, 0);
+        Moving {
+            base: ops::pack(op, d, a, b),
+            outer: self.word_step(code, 0),
+            middle: self.word_step(code, 1),
+            inner: self.word_step(code, 2),
+            other: 0,
+        }
+    }
+
+    fn set(&self, code: u64) -> Moving
+        ensures { result ≡ set_row self.now.width self.now.env.now code }
+    {
+        Moving {
+            base: fields::join(self.place(code, 40), number_of(code), 40),
+            outer: self.set_step(code, 0),
+            middle: self.set_step(code, 1),
+            inner: self.set_step(code, 2),
+            other: other_of(code),
+        }
+    }
+
+    // The row of a line.
+    fn row(&self, code: u64) -> Row
+        ensures { result ≡ row_of_code self.now.width self.now.env.now code }
+    {
+        let op = fields::field(code, 60, 4);
+        match op {
+            0 => Row::Word(self.set(code)),
+            1..=7 => Row::Word(self.instruction(code, op)),
+            _ => Row::Loop {
+                over: over_of(op),
+                turns: self.place(code, 20),
+                rows: fields::field(code, 0, 20) as usize,
+            },
+        }
+    }
 }
 
 // The rows of a plan's lines, one for each.
-pub fn assemble(lines: &[u64], width: u64, env: &[u64], table: &mut [u64])
-    requires { (width < 2 ^ 19) × All (λ x. x < 2 ^ 19) env.now × (6 * length lines.now ≤ length table.old) }
-    ensures { (length table.new ≡ length table.old) × (rows_in table.new 0 (length lines.now) ≡ map (row_of_code width env.now) lines.now) }
+pub fn assemble(lines: &[u64], width: u64, env: &[u64], table: &mut [Row])
+    requires { (width < 2 ^ 19) × All (λ x. x < 2 ^ 19) env.now × (length lines.now ≤ length table.old) }
+    ensures { (length table.new ≡ length table.old) × (take (length lines.now) table.new ≡ map (row_of_code width env.now) lines.now) }
 {
-    let mut k: usize = 0;
-    while k < lines.len() {
-        let row = row_of(width, env, lines[k]);
-        put(table, k, row);
-        k += 1;
+    let places = Places { width, env };
+    for (k, line) in lines.iter().enumerate() {
+        table[k] = places.row(*line);
     }
 }

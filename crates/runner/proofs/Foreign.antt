@@ -12,7 +12,7 @@ use lib.IntN.{ℤ}
 use lib.ListN.{length, get_or, drop}
 use lib.Seq.{take-append_seam, drop_at}
 use Rattle.lists.specs.Buffers.{overwritten}
-use Rattle.answers.specs.declared.Refusal.{Refusal}
+use Rattle.answers.specs.Refusal.{Refusal}
 use Rattle.answers.specs.Refusal.{Log}
 use Rattle.answers.specs.Told.{refused}
 use Rattle.answers.proofs.Unmet.{need_none, or_else_none}

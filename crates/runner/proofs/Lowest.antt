@@ -16,7 +16,7 @@ use Rattle.lists.proofs.Slices.{next}
 use Rattle.machine.specs.Word.{admissible}
 use Rattle.machine.specs.Log.{Admitted}
 use Rattle.runner.specs.Runner.{bad_at, first_bad, found_of}
-use Rattle.runner.specs.declared.Found.TheVariants.{At, Nothing}
+use Rattle.std.specs.Prelude.{Some, None}
 
 -- ---- the loop
 
@@ -36,10 +36,10 @@ module _ (plan : List ℕ) (count k : ℕ) (t : Seeking plan count k) where
   pub again : k < length plan → bad_at count k (get_or plan k 0) ≡ false → Seeking plan count (k + 1)
   again h e = record { rest = sym (by_test h false e) }
 
-  pub found_here : k < length plan → bad_at count k (get_or plan k 0) ≡ true → At k ≡ found_of (first_bad count 1 (drop 1 plan))
+  pub found_here : k < length plan → bad_at count k (get_or plan k 0) ≡ true → Some k ≡ found_of (first_bad count 1 (drop 1 plan))
   found_here h e = rw (by_test h true e)
 
-  pub found_nowhere : length plan ≤ k → Nothing ≡ found_of (first_bad count 1 (drop 1 plan))
+  pub found_nowhere : length plan ≤ k → None ≡ found_of (first_bad count 1 (drop 1 plan))
   unfolding first_bad
   found_nowhere h = ap found_of (sym (ap (first_bad count k) (drop_of_length-le plan h)) ∙ t.rest)
 

@@ -12,8 +12,7 @@ use lib.Dec.{leb}
 use lib.IntN.{ℤ}
 use lib.ListN.{length, drop}
 use borrow.Author.Tests.{lt-leb, leb-true, leb-false}
-use Rattle.answers.specs.declared.Refusal.{Refusal}
-use Rattle.answers.specs.Refusal.{plain, placed, Log, Operation, need, or_else}
+use Rattle.answers.specs.Refusal.{Refusal, plain, placed, Log, Operation, need, or_else}
 use Rattle.answers.specs.Told.{refused}
 use Rattle.answers.proofs.Meets.{Meets, some_meets, first_meets}
 use Rattle.answers.proofs.Told.{Formed, met_exactly}

@@ -6,11 +6,10 @@ use Prim.Native.Nat.{ℕ, ◌+◌, ◌<◌, ◌≤◌}
 use native.Mathlib.Omega.{arith}
 use lib.IntN.{ℤ}
 use lib.ListN.{length, get_or, drop, length-append, drop_of_length-le}
-use borrow.Author.Tests.{eq-eqb, ne_eqb}
 use Rattle.lists.proofs.Slices.{next}
 use Rattle.fields.specs.Fields.{bits_of}
 use Rattle.machine.specs.Effect.{cell_at}
-use Rattle.machine.specs.Word.{op_field, a_field}
+use Rattle.machine.specs.Word.{a_field}
 use Rattle.machine.specs.Log.{carried, opens, logged, log_from, log_of, sum_of}
 use Rattle.runner.specs.Runner.{log_size}
 
@@ -41,16 +40,16 @@ unfolding log_size
 start plan = record { rest = refl; few = omega arith }
 
 module _ (plan : List ℕ) (size k : ℕ) (t : Counting plan size k) where
-  pub again_open : k < length plan → op_field (get_or plan k 0) ≡ 7 → (size' : ℕ) → size' ≡ size + 1 → Counting plan size' (k + 1)
+  pub again_open : k < length plan → opens (get_or plan k 0) ≡ true → (size' : ℕ) → size' ≡ size + 1 → Counting plan size' (k + 1)
   again_open h e size' q =
       let n = sum_next publishes plan k h in
-      let o : publishes (get_or plan k 0) ≡ 1 = rw (eq-eqb _ _ e) in
+      let o : publishes (get_or plan k 0) ≡ 1 = rw e in
       record { rest = omega arith; few = omega arith }
 
-  pub again_other : k < length plan → (op_field (get_or plan k 0) ≡ 7 → ⊥) → (size' : ℕ) → size' ≡ size → Counting plan size' (k + 1)
+  pub again_other : k < length plan → opens (get_or plan k 0) ≡ false → (size' : ℕ) → size' ≡ size → Counting plan size' (k + 1)
   again_other h e size' q =
       let n = sum_next publishes plan k h in
-      let o : publishes (get_or plan k 0) ≡ 0 = rw (ne_eqb _ _ e) in
+      let o : publishes (get_or plan k 0) ≡ 0 = rw e in
       record { rest = omega arith; few = omega arith }
 
   pub done : length plan ≤ k → size ≡ log_size plan

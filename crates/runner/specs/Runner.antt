@@ -1,18 +1,16 @@
 -- The runner (document 01, "Who caused it": the sender of a foreign plan): what it refuses, and what it answers and leaves.
 -- Rests on logs, depths and refusals.
-use Rattle.std.specs.Prelude.{◌≡◌, Bool, not, ◌||◌, cond, List, [], ◌∷◌, ℕ, suc, ◌+◌, leb, ℤ, length, get_or, take, drop}
+use Rattle.std.specs.Prelude.{◌≡◌, Bool, not, ◌||◌, cond, List, [], ◌∷◌, ℕ, suc, ◌+◌, leb, ℤ, length, get_or, take, drop, Result, Ok, Err, Some, None}
 use Rattle.std.proofs.Math.Option.{Option, none, some}
 use Rattle.lists.specs.Buffers.{overwritten}
-use Rattle.answers.specs.declared.Refusal.{Refusal}
-use Rattle.answers.specs.Refusal.{Log, Operation, need, or_else}
+use Rattle.std.specs.declared.option.Option as Code
+use Rattle.answers.specs.declared.Refusal as Answers
+use Rattle.answers.specs.Refusal.{Refusal, Log, Operation, need, or_else, rule_of}
 use Rattle.answers.specs.Told.{Told, refused}
 use Rattle.machine.specs.Word.{admissible}
 use Rattle.machine.specs.Log.{opens, cells_after, log_of, sum_of}
 use Rattle.machine.specs.Depth.{charge_of}
-use Rattle.runner.specs.declared.PlanAnswer.{PlanAnswer}
-use Rattle.runner.specs.declared.PlanAnswer.TheVariants.{Ran, Refused}
-use Rattle.runner.specs.declared.Found.{Found}
-use Rattle.runner.specs.declared.Found.TheVariants.{At, Nothing}
+use Rattle.runner.specs.declared.PlanReport.{PlanReport}
 
 -- ---- refusals
 
@@ -25,9 +23,10 @@ unfoldable pub first_bad : (count place : ℕ) → List ℕ → Option ℕ
 first_bad count place [] = none
 first_bad count place (w ∷ ws) = cond (bad_at count place w) (some place) (first_bad count (suc place) ws)
 
-abbrev pub found_of : Option ℕ → Found
-found_of none = Nothing
-found_of (some k) = At k
+-- A place as the code has it.
+abbrev pub found_of : Option ℕ → Code.Option ℕ
+found_of none = None
+found_of (some k) = Some k
 
 -- How many words the log of a plan has: each word, and the published cell after each OPEN.
 unfoldable pub log_size : (plan : List ℕ) → ℕ
@@ -52,9 +51,9 @@ pub record CarriedOut (plan : List ℕ) (cells₀ : List ℤ) (log₀ : List ℕ
 -- ---- the outcome: the answer and the two lent buffers
 
 -- What an answer says, in document 01's number, place and values: of a run, rounds and log length.
-abbrev pub told_by_plan : PlanAnswer → Told
-told_by_plan (Ran t) = record { number = 0; place = none; values = t.rounds ∷ t.length ∷ [] }
-told_by_plan (Refused r) = refused r
+abbrev pub told_by_plan : Result PlanReport Answers.Refusal → Told
+told_by_plan (Ok t) = record { number = 0; place = none; values = t.rounds ∷ t.length ∷ [] }
+told_by_plan (Err r) = refused (rule_of r)
 
 pub record PlanOutcome : Type 0 where
   pub answer : Told
@@ -97,7 +96,7 @@ module _ (plan : List ℕ) (cells : List ℤ) (log : List ℕ) where
   plan_log = plan_log_in (plan_outcome plan cells log)
 
 -- The answer and both buffers are the outcome's.
-pub record MetPlan (o : PlanOutcome) (answer : PlanAnswer) (cells : List ℤ) (log : List ℕ) : Type 0 where
+pub record MetPlan (o : PlanOutcome) (answer : Result PlanReport Answers.Refusal) (cells : List ℤ) (log : List ℕ) : Type 0 where
   pub answers : told_by_plan answer ≡ o.answer
   pub cells_left_are : cells ≡ o.cells
   pub log_left : log ≡ o.log

@@ -16,18 +16,6 @@ pub struct PlanReport {
     pub length: usize,
 }
 
-#[derive(Clone, Copy)]
-pub enum PlanAnswer {
-    Ran(PlanReport),
-    Refused(Refusal),
-}
-
-#[derive(Clone, Copy)]
-pub enum Found {
-    At(usize),
-    Nothing,
-}
-
 // The first place that no plan has.
 const PLACES: usize = 16777216;
 
@@ -42,17 +30,16 @@ fn bad(word: u64, place: usize, count: usize) -> bool
 }
 
 // The lowest bad place; the header is not tested.
-fn first_bad(plan: &[u64], count: usize) -> Found
+fn first_bad(plan: &[u64], count: usize) -> Option<usize>
     ensures { result ≡ found_of (first_bad count 1 (drop 1 plan.now)) }
 {
-    let mut place: usize = 1;
-    while place < plan.len() {
+    // An index: it is the place that is answered.
+    for place in 1..plan.len() {
         if bad(plan[place], place, count) {
-            return Found::At(place);
+            return Some(place);
         }
-        place += 1;
     }
-    Found::Nothing
+    None
 }
 
 // How many words the log of a plan has.
@@ -60,12 +47,12 @@ fn log_length(plan: &[u64]) -> usize
     ensures { result ≡ log_size plan.now }
 {
     let mut size = plan.len();
-    let mut j: usize = 1;
-    while j < plan.len() {
-        if fields::field(plan[j], 60, 4) == ops::OPEN {
-            size += 1;
+    if let [_, operations @ ..] = plan {
+        for word in operations {
+            if ops::opens(*word) {
+                size += 1;
+            }
         }
-        j += 1;
     }
     size
 }
@@ -75,10 +62,10 @@ pub fn carry_words(words: &[u64], cells: &mut [i64])
     requires { Admitted (length cells.old) (drop 1 words.now) }
     ensures { cells.new ≡ cells_after (drop 1 words.now) cells.old }
 {
-    let mut at: usize = 1;
-    while at < words.len() {
-        ops::step(cells, words[at]);
-        at += 1;
+    if let [_, rest @ ..] = words {
+        for word in rest {
+            ops::step(cells, *word);
+        }
     }
 }
 
@@ -87,17 +74,15 @@ fn carry_plan(plan: &[u64], cells: &mut [i64], log: &mut [u64])
     requires { Admitted (length cells.old) (drop 1 plan.now) × (length (log_of plan.now cells.old) ≤ length log.old) }
     ensures { CarriedOut plan.now cells.old log.old cells.new log.new }
 {
-    if plan.len() == 0 {
+    let [header, words @ ..] = plan else {
         return;
-    }
-    log[0] = plan[0];
+    };
+    log[0] = *header;
+    // The log and the place stay two, here and in `append`: a struct of both would be made, lent and taken apart in this one function.
     let mut at: usize = 1;
-    let mut k: usize = 1;
-    'words: while k < plan.len() {
-        let word = plan[k];
+    for &word in words {
         at = ops::append(cells, log, at, word);
         ops::step(cells, word);
-        k += 1;
     }
 }
 
@@ -106,27 +91,27 @@ fn rounds_of(plan: &[u64], cells: &mut [i64], log: &mut [u64]) -> u64
     requires { Admitted (length cells.old) (drop 1 plan.now) × (length plan.now ≤ 2 ^ 24) × (length plan.now ≤ length log.old) }
     ensures { WorkedOut (drop 1 plan.now) cells.old log.old result cells.new log.new }
 {
-    if plan.len() == 0 {
+    let [_, words @ ..] = plan else {
         return 0;
-    }
-    charge::depth_of(&plan[1..], cells, log)
+    };
+    charge::depth_of(words, cells, log)
 }
 
 // A foreign plan run: refusal 9 with the lowest place, then 7; refused, the buffers stay.
-pub fn run_plan(plan: &[u64], cells: &mut [i64], log: &mut [u64]) -> PlanAnswer
+pub fn run_plan(plan: &[u64], cells: &mut [i64], log: &mut [u64]) -> Result<PlanReport, Refusal>
     ensures { MetPlan (plan_outcome plan.now cells.old log.old) result cells.new log.new }
 {
-    if let Found::At(place) = first_bad(plan, cells.len()) {
-        return PlanAnswer::Refused(Refusal::at(answers::OPERATION, place));
+    if let Some(place) = first_bad(plan, cells.len()) {
+        return Err(Refusal::Operation(place));
     }
     let size = log_length(plan);
     let short = log.len() < size;
     if short {
-        return PlanAnswer::Refused(answers::LOG);
+        return Err(Refusal::Log);
     }
     let rounds = rounds_of(plan, cells, log);
     carry_plan(plan, cells, log);
-    PlanAnswer::Ran(PlanReport {
+    Ok(PlanReport {
         rounds,
         length: size,
     })

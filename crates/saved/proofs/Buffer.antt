@@ -4,6 +4,7 @@ use mathlib.Core.Path.{◌≡◌, refl, sym, ap, ◌∙◌}
 use mathlib.Core.Bool.{Bool, true, false, not}
 use mathlib.Core.List.{List, ◌++◌, map, append-nil}
 use mathlib.Core.Option.{none, some}
+use Rattle.std.specs.Prelude.{Ok, Err}
 use Prim.Native.Nat.{ℕ, ◌+◌, ◌^◌, ◌<◌, ◌≤◌, zero-le}
 use native.Mathlib.Numerals.{add-one}
 use native.Mathlib.Omega.{arith}
@@ -15,13 +16,10 @@ use lib.Signed.{mag}
 use borrow.Author.Tests.{not-true, not-false}
 use Rattle.lists.proofs.Test.{holds}
 use Rattle.lists.proofs.Filled.{from_start}
-use Rattle.answers.specs.declared.Refusal.{Refusal}
-use Rattle.answers.specs.declared.Checked.{Checked}
-use Rattle.answers.specs.declared.Checked.TheVariants.{Accepted, Refused}
-use Rattle.answers.specs.Refusal.{Weight, need, found}
+use Rattle.answers.specs.declared.Refusal as Code
+use Rattle.answers.specs.Refusal.{Weight, rule_of, Checked, need, found}
 use Rattle.answers.proofs.Unmet.{need_none}
 use Rattle.machine.proofs.Tested.{back, kept}
-use Rattle.saved.specs.declared.Conversion.TheVariants as Conversion
 use Rattle.saved.specs.Saved.{convertible, converted, saved_refusal, conversion_outcome, MetConversion}
 
 -- ---- words tested
@@ -47,8 +45,8 @@ module _ (saved : List ℤ) (k : ℕ) where
       tested : convertible (get_or saved k (pos 0)) ≡ t
       tested = sym (ap convertible (kept (get_or saved k (pos 0)) small)) ∙ sym is
 
-      pub refused : (r : Refusal) → r ≡ Weight k → not t ≡ true → some r ≡ saved_refusal 0 saved
-      refused r told bad = rw (told, ← p.rest, first l, tested, not-true t bad)
+      pub refused : not t ≡ true → some (Weight k) ≡ saved_refusal 0 saved
+      refused bad = rw (← p.rest, first l, tested, not-true t bad)
 
       pub again : not t ≡ false → Passed saved (k + 1)
       again good = record { within = omega arith; rest = sym (rw (tested, not-false t good) at (first l)) ∙ p.rest }
@@ -104,14 +102,14 @@ module _ (saved₀ saved : List ℤ) (k : ℕ) (h : Halfway saved₀ saved k) wh
 -- ---- what is left, by the ways out of `convert`: s is what the check answers
 
 module _ (saved : List ℤ) (s : Checked) (is : found s ≡ saved_refusal 0 saved) where
-  pub told : (r : Refusal) → s ≡ Refused r → MetConversion (conversion_outcome saved) (Conversion.Refused r) saved
+  pub told : (r : Code.Refusal) → s ≡ Err r → (answer : Checked) → answer ≡ Err r → MetConversion (conversion_outcome saved) answer saved
   unfolding conversion_outcome
-  told r e = let met : saved_refusal 0 saved ≡ some r = sym is ∙ ap found e in record { answers = rw met; words = rw met }
+  told r e answer handed =
+      let met : saved_refusal 0 saved ≡ some (rule_of r) = sym is ∙ ap found e in record { answers = rw (handed, met); words = rw met }
 
-  pub passed : s ≡ Accepted → saved_refusal 0 saved ≡ none
+  pub passed : s ≡ Ok tt → saved_refusal 0 saved ≡ none
   passed e = sym is ∙ ap found e
 
-  pub made : s ≡ Accepted → (words : List ℤ) → words ≡ map converted saved
-      → MetConversion (conversion_outcome saved) Conversion.Converted words
+  pub made : s ≡ Ok tt → (words : List ℤ) → words ≡ map converted saved → MetConversion (conversion_outcome saved) (Ok tt) words
   unfolding conversion_outcome
   made e words all = rw (passed e) (record { answers = refl; words = all })

@@ -1,15 +1,12 @@
 -- Saved distances converted to finer money (document 02, ask 7): which words are converted, to what, and what is refused.
 -- Rests on refusals and on FAR.
-use Rattle.std.specs.Prelude.{◌≡◌, Bool, ◌&&◌, ◌||◌, cond, List, [], ◌∷◌, map, ℕ, suc, ◌-◌, ◌^◌, ℤ, pos, negsuc, ◌*ℤ◌}
+use Rattle.std.specs.Prelude.{◌≡◌, Ok, Err, Bool, ◌&&◌, ◌||◌, cond, List, [], ◌∷◌, map, ℕ, suc, ◌-◌, ◌^◌, ℤ, pos, negsuc, ◌*ℤ◌}
 use Rattle.std.proofs.Math.Option.{Option, none, some}
 use Rattle.std.specs.Int.Signed.{le_z}
-use Rattle.answers.specs.declared.Refusal.{Refusal}
-use Rattle.answers.specs.Refusal.{Weight, need}
+use Rattle.answers.specs.Refusal.{Refusal, Checked, Weight, need, rule_of}
 use Rattle.answers.specs.Told.{Told, refused}
 use Rattle.machine.specs.Effect.{eq_z}
 use Rattle.plans.specs.Limits.{far}
-use Rattle.saved.specs.declared.Conversion.{Conversion}
-use Rattle.saved.specs.declared.Conversion.TheVariants.{Converted, Refused}
 
 -- ---- the numbers as they were
 
@@ -42,9 +39,9 @@ saved_refusal place [] = none
 saved_refusal place (z ∷ zs) = need (convertible z) (Weight place) (saved_refusal (suc place) zs)
 
 -- What an answer says, in document 01's number, place and values.
-abbrev pub told_by_conversion : Conversion → Told
-told_by_conversion Converted = record { number = 0; place = none; values = [] }
-told_by_conversion (Refused r) = refused r
+abbrev pub told_by_conversion : Checked → Told
+told_by_conversion (Ok done) = record { number = 0; place = none; values = [] }
+told_by_conversion (Err r) = refused (rule_of r)
 
 -- The answer, and what the lent buffer holds after it.
 pub record ConversionOutcome : Type 0 where
@@ -53,12 +50,12 @@ pub record ConversionOutcome : Type 0 where
 
 -- By the refusal met: a refusal changes no word.
 abbrev pub conversion_outcome_by : Option Refusal → (saved : List ℤ) → ConversionOutcome
-conversion_outcome_by none zs = record { answer = told_by_conversion Converted; saved = map converted zs }
+conversion_outcome_by none zs = record { answer = told_by_conversion (Ok tt); saved = map converted zs }
 conversion_outcome_by (some r) zs = record { answer = refused r; saved = zs }
 
 unfoldable pub conversion_outcome : (saved : List ℤ) → ConversionOutcome
 conversion_outcome zs = conversion_outcome_by (saved_refusal 0 zs) zs
 
-pub record MetConversion (left : ConversionOutcome) (answer : Conversion) (saved : List ℤ) : Type 0 where
+pub record MetConversion (left : ConversionOutcome) (answer : Checked) (saved : List ℤ) : Type 0 where
   pub answers : told_by_conversion answer ≡ left.answer
   pub words : saved ≡ left.saved

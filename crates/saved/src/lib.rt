@@ -7,7 +7,7 @@ ghost use Rattle.std.proofs.Math.Option.{none};
 ghost use Rattle.answers.specs.Refusal.{found};
 ghost use Rattle.saved.specs.Saved.{convertible, converted, saved_refusal, conversion_outcome, MetConversion};
 
-use answers::{Checked, Refusal};
+use answers::Refusal;
 
 // The mark of an unreached vertex as it was.
 const OLD_FAR: i64 = 274877906944;
@@ -17,13 +17,6 @@ const OLD_MOST: i64 = 31000000;
 
 // How many of today's units the old one is.
 const FACTOR: i64 = 100;
-
-// What a conversion answers.
-#[derive(Clone, Copy)]
-pub enum Conversion {
-    Converted,
-    Refused(Refusal),
-}
 
 // Whether a word is the old mark or a distance of old.
 fn may_convert(word: i64) -> bool
@@ -39,17 +32,16 @@ fn may_convert(word: i64) -> bool
 }
 
 // 11, with the lowest place of a word that is neither.
-fn check(saved: &[i64]) -> Checked
+fn check(saved: &[i64]) -> Result<(), Refusal>
     ensures { found result ≡ saved_refusal 0 saved.now }
 {
-    let mut place: usize = 0;
-    while place < saved.len() {
-        if !may_convert(saved[place]) {
-            return Checked::Refused(Refusal::at(answers::WEIGHT, place));
+    for (place, word) in saved.iter().enumerate() {
+        let bad = !may_convert(*word);
+        if bad {
+            return Err(Refusal::Weight(place));
         }
-        place += 1;
     }
-    Checked::Accepted
+    Ok(())
 }
 
 // One word converted.
@@ -68,21 +60,16 @@ fn convert_words(saved: &mut [i64])
     requires { saved_refusal 0 saved.old ≡ none }
     ensures { saved.new ≡ map converted saved.old }
 {
-    let mut k: usize = 0;
-    while k < saved.len() {
-        let word = saved[k];
-        saved[k] = convert_word(word);
-        k += 1;
+    for word in saved.iter_mut() {
+        *word = convert_word(*word);
     }
 }
 
 // Saved distances converted in place. Every word is tested before the first is changed; a refusal leaves all of them.
-pub fn convert(saved: &mut [i64]) -> Conversion
+pub fn convert(saved: &mut [i64]) -> Result<(), Refusal>
     ensures { MetConversion (conversion_outcome saved.old) result saved.new }
 {
-    if let Checked::Refused(refusal) = check(saved) {
-        return Conversion::Refused(refusal);
-    }
+    check(saved)?;
     convert_words(saved);
-    Conversion::Converted
+    Ok(())
 }

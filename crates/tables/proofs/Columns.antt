@@ -11,9 +11,11 @@ use lib.ListN.{length, get_or, set, length-set, get_or-append}
 use lib.Seq.{sets, length-sets, get_or-set_same, get_or-set_other, get_or-append-add, ext_get_or}
 use Rattle.machine.proofs.Every.{all_at}
 use Rattle.plans.specs.Blocks.{flat}
+use Rattle.rows.specs.declared.Row.{Row}
+use Rattle.rows.specs.Table.{moving_of}
 use Rattle.rows.proofs.Blocks.{flat_length}
 use Rattle.rows.proofs.Read.{sets_before, sets_in, sets_after}
-use Rattle.tables.specs.Writing.{RoomAt, Wrote, Spaced}
+use Rattle.tables.specs.Writing.{moving_at, RoomAt, Wrote, Spaced}
 
 -- ---- places
 
@@ -41,6 +43,12 @@ begins size count at i some h =
     ⊎_elim (λ (z : count ≡ 0). absurd (some (omega (arith, ap (λ (n : ℕ). n * size) z, zero-mul size))))
     (λ (l : 0 < count). omega (arith, further size 0 count l, zero-mul size)) (eq-zero-or-pos count)
 
+-- A row's word, by its place.
+pub moving_at_is : (rows : List Row) (r : ℕ) (d : Row) → r < length rows → moving_of (get_or rows r d) ≡ moving_at rows r
+moving_at_is [] r d h = absurd (not-suc-le-zero h)
+moving_at_is (x ∷ rows) zero d h = refl
+moving_at_is (x ∷ rows) (suc r) d h = moving_at_is rows r d (le_of_suc-le-suc h)
+
 -- ---- one row
 
 -- Before turn j.
@@ -52,16 +60,6 @@ pub record Spacing (f : ℕ → ℕ) (size at end : ℕ) (before out : List ℕ)
   pub stays : (p : ℕ) → ((i : ℕ) → i < j → p ≡ at + i * size → ⊥) → get_or out p 0 ≡ get_or before p 0
 
 module _ (f : ℕ → ℕ) (size at end : ℕ) (some : 0 < size) (before : List ℕ) where
-  pub spacing : Spacing f size at end before before at 0
-  spacing =
-      record {
-        here = omega arith;
-        long = refl;
-        within = λ i h. absurd (not-suc-le-zero h);
-        put = λ i h. absurd (not-suc-le-zero h);
-        stays = λ p h. refl;
-      }
-
   module _ {out : List ℕ} {q j : ℕ} (s : Spacing f size at end before out q j) where
     -- There are no more turns than places.
     pub few : j ≤ q

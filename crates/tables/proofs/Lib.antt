@@ -1,4 +1,3 @@
-pub mod Counted
 pub mod Written
 pub mod Copied
 pub mod Expanded

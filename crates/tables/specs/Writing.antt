@@ -1,4 +1,4 @@
--- What the writer's functions promise: the words of a table in memory, part by part, words written to a buffer, and a plan's lines.
+-- What the writer's functions promise: the words of rows, part by part, words written to a buffer, and a plan's lines.
 -- Rests on rows' tables and codes.
 use Rattle.std.specs.Prelude.{◌≡◌, cond, List, [], ◌∷◌, map, ℕ, ◌+◌, ◌*◌, ◌^◌, ◌≤◌, ◌<◌, eqb, length, get_or}
 use Rattle.std.proofs.lemmas.List.Edits.{sets}
@@ -6,43 +6,50 @@ use Rattle.machine.specs.Instruction.{All}
 use Rattle.plans.specs.declared.Counters.{Counters}
 use Rattle.plans.specs.Blocks.{flat}
 use Rattle.plans.specs.Outline.{inner, counted_to, start}
+use Rattle.rows.specs.declared.Moving.{Moving}
+use Rattle.rows.specs.declared.Over.{Over}
 use Rattle.rows.specs.declared.Row.{Row}
-use Rattle.rows.specs.Table.{word_of, turned, expand, Inside, row_at, rows_in}
+use Rattle.rows.specs.declared.Row.TheVariants.{Word, Loop}
+use Rattle.rows.specs.Table.{word_of, moving_of, turned, is_run, expand, Inside}
 use Rattle.rows.specs.Code.{row_of_code}
 
--- ---- the words of a table in memory
+-- ---- the words of rows
 
 -- How many of the rows after a row are its loop's.
-unfoldable pub size_of : Row → ℕ
-size_of x = cond (eqb x.kind 0) 0 x.outer
+abbrev pub size_of : Row → ℕ
+size_of (Word x) = 0
+size_of (Loop over turns rows) = rows
 
--- A row where the inner counter is 0; and its word at the inner counter j, `other` being added unless j is the source.
-abbrev pub first_of : Row → Counters → ℕ
+-- A word where the inner counter is 0; and the word at the inner counter j, `other` being added unless j is the source.
+abbrev pub first_of : Moving → Counters → ℕ
 first_of x k = x.base + x.outer * k.outer + x.middle * k.middle
 
 abbrev pub word_along : (first step other source j : ℕ) → ℕ
 word_along first step other source j = first + step * j + cond (eqb j source) 0 other
 
-module _ (t : List ℕ) (source : ℕ) where
-  -- The words of the `size` rows from `first` on, and of the same rows where all are words.
-  unfoldable pub block : (first size : ℕ) → Counters → List ℕ
-  block first size k = expand source size (rows_in t first size) k
+-- A row of a run by its place.
+abbrev pub moving_at : List Row → (r : ℕ) → Moving
+moving_at rows r = get_or (map moving_of rows) r (record { base = 0; outer = 0; middle = 0; inner = 0; other = 0 })
 
-  unfoldable pub straight : (first size : ℕ) → Counters → List ℕ
-  straight first size k = flat size (λ j. word_of source (row_at t (first + j)) k ∷ [])
+module _ (source : ℕ) where
+  -- The words of rows, and of the same rows where all are words.
+  unfoldable pub block : List Row → Counters → List ℕ
+  block rows k = expand source (length rows) rows k
 
-  -- The words of the loop at row r, of which the `size` rows after it are the body: as a run, and any other.
-  unfoldable pub running : (r size : ℕ) → Counters → List ℕ
-  running r size k = flat (row_at t r).base (λ j. straight (r + 1) size (counted_to inner j k))
+  unfoldable pub straight : List Row → Counters → List ℕ
+  straight rows k = flat (length rows) (λ j. word_of source (moving_at rows j) k ∷ [])
 
-  unfoldable pub looping : (r size : ℕ) → Counters → List ℕ
-  looping r size k = flat (row_at t r).base (λ j. block (r + 1) size (turned (row_at t r).kind j k))
+  -- The words of a loop, by how often it turns and its rows: as a run, and any other.
+  unfoldable pub running : (turns : ℕ) (rows : List Row) → Counters → List ℕ
+  running turns rows k = flat turns (λ j. straight rows (counted_to inner j k))
 
-  -- The words of row r, a word or a loop.
-  unfoldable pub unrolled : (r size : ℕ) → Counters → List ℕ
-  unrolled r size k =
-      cond (eqb (row_at t r).kind 0) (word_of source (row_at t r) k ∷ [])
-      (cond (eqb (row_at t r).kind 5) (running r size k) (looping r size k))
+  unfoldable pub looping : Over → (turns : ℕ) (rows : List Row) → Counters → List ℕ
+  looping over turns rows k = flat turns (λ j. block rows (turned over j k))
+
+  -- The words of a row, a word or a loop over the rows that are its own.
+  unfoldable pub unrolled : Row → (own : List Row) → Counters → List ℕ
+  unrolled (Word x) own k = word_of source x k ∷ []
+  unrolled (Loop over turns rows) own k = cond (is_run over) (running turns own k) (looping over turns own k)
 
 -- ---- words written to a buffer
 
@@ -51,10 +58,9 @@ pub record RoomAt (ws out : List ℕ) (at : ℕ) : Type 0 where
   pub small : All (λ w. w < 2 ^ 64) ws
   pub fits : at + length ws ≤ length out
 
--- The `size` rows from `first` on are there with all their loops' rows, and there is room for words.
-pub record Ready (t : List ℕ) (first size : ℕ) (ws out : List ℕ) (at : ℕ) : Type 0 where
-  pub there : 6 * (first + size) ≤ length t
-  pub inside : Inside size (rows_in t first size)
+-- The rows are there with all their loops' rows, and there is room for words.
+pub record Ready (rows : List Row) (ws out : List ℕ) (at : ℕ) : Type 0 where
+  pub inside : Inside (length rows) rows
   pub room : RoomAt ws out at
 
 -- The words are written from `at` on, and `next` is the place after them.
@@ -62,11 +68,10 @@ pub record Wrote (ws before after : List ℕ) (at next : ℕ) : Type 0 where
   pub written : after ≡ sets before at ws
   pub ends : next ≡ at + length ws
 
--- Row r is there, and room for f 0, f 1, .. from `at` on, `size` places apart, as far as `end`: for one at least.
-pub record Spacious (t : List ℕ) (r size : ℕ) (f : ℕ → ℕ) (at end : ℕ) (out : List ℕ) : Type 0 where
-  pub there : 6 * (r + 1) ≤ length t
+-- Room for f 0, f 1, .. from `at` on, `size` places apart, as far as `end`: for one at least.
+pub record Spacious (f : ℕ → ℕ) (size at end : ℕ) (out : List ℕ) : Type 0 where
   pub some : 0 < size
-  pub few : size ≤ length t
+  pub few : size < 2 ^ 63
   pub begins : at < end
   pub fits : end ≤ length out
   pub small : (j : ℕ) → at + j * size < end → f j < 2 ^ 64

@@ -1,19 +1,21 @@
 -- What io's `decimal` and `hex` leave is the number's text: the fewest digits have no leading zero, and a word has 16 of base 16.
 -- Rests on Written and fields' Shifts.
 use mathlib.Core.Logic.{⊎_elim}
-use mathlib.Core.Path.{◌≡◌, refl, sym, ap, ◌∙◌}
+use mathlib.Core.Path.{◌≡◌, refl, sym, ap, subst, ◌∙◌}
 use mathlib.Core.Bool.{false}
 use mathlib.Core.List.{List, [], ◌∷◌, ◌++◌}
-use Prim.Native.Nat.{ℕ, zero, suc, ◌+◌, ◌-◌, ◌/◌, ◌%◌, ◌^◌, ◌<◌, ◌≤◌}
+use Prim.Native.Nat.{ℕ, zero, suc, ◌-◌, ◌/◌, ◌%◌, ◌^◌, ◌<◌, ◌≤◌}
 use native.Mathlib.Nat.{one-le-pow, pow-le-pow_right, eq-zero-or-pos}
 use native.Mathlib.Omega.{arith, pow_step}
 use borrow.Author.Tests.{eq-eqb, ne_eqb}
 use lib.Dec.{eqb}
 use lib.IntN.{ℤ, nat_abs}
 use lib.ListN.{length, take}
-use lib.Seq.{sets, length-take-le}
+use lib.Seq.{length-take-le}
 use Rattle.io.specs.Digits.{hex_digit_ascii, last_digits, IsDigitCount}
-use Rattle.text.specs.Text.{dash, leading, decimal, signed, hexadecimal, Put}
+use Rattle.text.specs.Text.{dash, leading, decimal, signed, hexadecimal}
+use Rattle.text.specs.Appended.{Appended}
+use Rattle.text.specs.declared.Text.{Text}
 use Rattle.fields.proofs.Shifts.{Below, NotBelow}
 use Rattle.text.proofs.Written.{then, wider}
 
@@ -65,43 +67,31 @@ is_decimal n (suc (suc k)) w f =
     (leading_digits (suc k) 19 (n / 10) (omega (arith, few_tens n (suc (suc k)) w f)) (omega (arith, f.1, pow_step 10 (suc k)))
     (λ (o : 0 < suc k). rw less (omega (arith, low, pow_step 10 k))))
 
--- The first k digits of a buffer, written, are the text that they make.
-copied : {before after : List ℕ} {at end : ℕ} (k most : ℕ) (text out : List ℕ) → k ≤ length out → k ≤ most → take k out ≡ text
-    → Put (length (take k out)) (take k out) before after at end → Put most text before after at end
-copied {before} {after} {at} {end} k most text out i h e p =
-    record {
-      written = p.written ∙ ap (sets before at) e;
-      ends = p.ends ∙ ap (λ (s : List ℕ). at + length s) e;
-      short = omega (arith, p.short, length-take-le k out i);
-      long = p.long;
-    }
+-- The first k digits of an array, appended, are the text that they make.
+copied : {a b : Text} (k most : ℕ) (text out : List ℕ) → k ≤ length out → k ≤ most → take k out ≡ text
+    → Appended (length (take k out)) (take k out) a b → Appended most text a b
+copied {a} {b} k most text out i h e p =
+    subst (λ (t : List ℕ). Appended most t a b) e (wider p most (omega (arith, length-take-le k out i)))
 
 module _ (n k : ℕ) (out : List ℕ) (h : n < 2 ^ 64) (i : k ≤ length out) where
-  pub few_bytes : IsDigitCount 10 1 n k → length (take k out) ≤ 20
-  few_bytes f = omega (arith, few_tens n k h f, length-take-le k out i)
-
-  pub number : {before after : List ℕ} {at end : ℕ} → IsDigitCount 10 1 n k → take k out ≡ last_digits 10 k n
-      → Put (length (take k out)) (take k out) before after at end → Put 20 (decimal n) before after at end
+  pub number : {a b : Text} → IsDigitCount 10 1 n k → take k out ≡ last_digits 10 k n
+      → Appended (length (take k out)) (take k out) a b → Appended 20 (decimal n) a b
   number f e = copied k 20 (decimal n) out i (few_tens n k h f) (e ∙ is_decimal n k h f)
 
   sixteen : IsDigitCount 16 16 n k → k ≡ 16
   sixteen f = let m = few 16 16 16 n k (omega arith) (omega arith) (omega arith) f in omega (arith, f.0)
 
-  pub all_bytes : IsDigitCount 16 16 n k → length (take k out) ≡ 16
-  all_bytes f = omega (arith, sixteen f, length-take-le k out i)
-
-  pub word : {before after : List ℕ} {at end : ℕ} → IsDigitCount 16 16 n k → take k out ≡ last_digits 16 k n
-      → Put (length (take k out)) (take k out) before after at end → Put 16 (hexadecimal n) before after at end
+  pub word : {a b : Text} → IsDigitCount 16 16 n k → take k out ≡ last_digits 16 k n
+      → Appended (length (take k out)) (take k out) a b → Appended 16 (hexadecimal n) a b
   unfolding hexadecimal
   word f e = copied k 16 (hexadecimal n) out i (omega (arith, sixteen f)) (e ∙ ap (λ (j : ℕ). last_digits 16 j n) (sixteen f))
 
 -- A number with its sign, from how far it is from 0.
-pub negative : {z : ℤ} {n : ℕ} {b₀ b₁ b₂ : List ℕ} {at mid end : ℕ} → Below z → n ≡ nat_abs z
-    → Put 1 (dash ∷ []) b₀ b₁ at mid → Put 20 (decimal n) b₁ b₂ mid end → Put 21 (signed z) b₀ b₂ at end
+pub negative : {z : ℤ} {n : ℕ} {a b c : Text} → Below z → n ≡ nat_abs z → Appended 1 (dash ∷ []) a b → Appended 20 (decimal n) b c
+    → Appended 21 (signed z) a c
 unfolding signed
 negative {z} h e p q = rw (h.is, sym (e ∙ ap nat_abs h.is)) (then p q)
 
-pub positive : {z : ℤ} {n : ℕ} {b₀ b₁ : List ℕ} {at end : ℕ} → NotBelow z → n ≡ nat_abs z
-    → Put 20 (decimal n) b₀ b₁ at end → Put 21 (signed z) b₀ b₁ at end
+pub positive : {z : ℤ} {n : ℕ} {a b : Text} → NotBelow z → n ≡ nat_abs z → Appended 20 (decimal n) a b → Appended 21 (signed z) a b
 unfolding signed
 positive {z} h e p = rw (h.is, sym (e ∙ ap nat_abs h.is)) (wider p 21 (omega arith))

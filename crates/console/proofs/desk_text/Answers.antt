@@ -1,43 +1,21 @@
--- `console::desk_text` meets its contract. Rests on Whole, lists' Slices and replies' Answered.
+-- `console::desk_text` meets its contract. Rests on Whole and replies' Answered.
 use borrow.Author.Rules.{rules}
-use Prim.Native.Nat.{ℕ}
 use native.Mathlib.Omega.{arith}
-use lib.IntN.{ℤ, pos}
-use Rattle.lists.proofs.Slices.{counted}
 use Rattle.printing.specs.Desk.{desk_text}
-use Rattle.replies.proofs.Answered.{distinct, run_accepted, answer_text}
+use Rattle.replies.proofs.Answered.{run_accepted, answer_text}
 use Rattle.console.proofs.Whole.{printed}
 use Rattle.console.proofs.desk_text.Goals as goal
 
-pub slice_bounds-run_bytes-end : goal.slice_bounds-run_bytes-end
-slice_bounds-run_bytes-end c = counted {X = ℤ} 1190 (pos 0)
-
-pub slice_bounds-run_bytes-end-2 : goal.slice_bounds-run_bytes-end-2
-slice_bounds-run_bytes-end-2 c = counted {X = ℕ} 8192 0
-
-pub slice_bounds-run_bytes-end-3 : goal.slice_bounds-run_bytes-end-3
-slice_bounds-run_bytes-end-3 c = counted {X = ℤ} 1024 (pos 0)
-
-pub slice_bounds-run_bytes-end-4 : goal.slice_bounds-run_bytes-end-4
-slice_bounds-run_bytes-end-4 c = counted {X = ℤ} 32 (pos 0)
-
-pub slice_bounds-run_bytes-end-5 : goal.slice_bounds-run_bytes-end-5
-slice_bounds-run_bytes-end-5 c = counted {X = ℤ} 31 (pos 0)
-
 pub put_answer-requires : goal.put_answer-requires
 put_answer-requires c =
-    let r = c.run_bytes-served.ensures in (
-      search rules,
-      search rules,
-      search rules,
-      search rules,
-      λ z. run_accepted _ _ _ _ _ _ _ _ r.1 _ r.0 z,
-      distinct _ _ _ _ _ _ _ _ r.1,
-    )
+    let r = c.run-served.ensures in
+    (search rules, λ z. run_accepted _ _ _ _ _ _ _ _ r.1 _ r.0 z)
 
 pub returns : goal.returns
 unfolding desk_text
 returns c =
-    let r = c.run_bytes-served.ensures in
+    let r = c.run-served.ensures in
     let same = c.same-all in
-    printed (omega arith) (rw (answer_text _ _ _ _ _ _ _ _ r.1 same.result _ r.0, same.ensures) at c.put_answer.ensures)
+    let e = c.new-printed.ensures in
+    printed e.lent e.empty c.len.ensures (omega arith)
+    (rw (answer_text _ _ _ _ _ _ _ _ r.1 same.result _ r.0, c.new-desk.ensures, same.ensures) at c.put_answer.ensures)

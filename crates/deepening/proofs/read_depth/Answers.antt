@@ -1,22 +1,30 @@
 -- `deepening::read_depth` meets its contract. Rests on Words.
 use mathlib.Core.Path.{◌∙◌}
-use native.Mathlib.Omega.{arith}
+use Rattle.ops.specs.declared.Op.TheVariants.{Set, Copy, MoveIf, Open}
+use Rattle.ops.proofs.Named.{below_eight, other}
 use Rattle.deepening.specs.Word.{read_of}
 use Rattle.deepening.proofs.Words.{two_left}
 use Rattle.deepening.proofs.read_depth.Goals as goal
 
-pub returns-in-1 : goal.returns-in-1
+pub returns-in-Set : goal.returns-in-Set
 unfolding read_of
-returns-in-1 c = rw c.in-1.is
+returns-in-Set c = rw c.in-Set.is
 
-pub returns-in-6 : goal.returns-in-6
+pub returns-in-Copy : goal.returns-in-Copy
 unfolding read_of
-returns-in-6 c = rw (c.in-6.is, c.greater-in-6.ensures, c.greater.ensures)
+returns-in-Copy c = rw c.in-Copy.is
 
-pub returns-in-7 : goal.returns-in-7
+pub returns-in-MoveIf : goal.returns-in-MoveIf
 unfolding read_of
-returns-in-7 c = rw c.in-7.is
+returns-in-MoveIf c = rw (c.in-MoveIf.is, c.max-in-MoveIf.ensures, c.max.ensures)
+
+pub returns-in-Open : goal.returns-in-Open
+unfolding read_of
+returns-in-Open c = rw c.in-Open.is
 
 pub returns-in_default : goal.returns-in_default
 returns-in_default c =
-    c.greater-in_default.ensures ∙ two_left _ _ _ _ c.requires.1 (λ e. omega arith) (λ e. omega arith) (λ e. omega arith) (λ e. omega arith)
+    let o = c.args.op in
+    let n = c.in_default in
+    c.max-in_default.ensures
+    ∙ two_left _ _ _ _ (below_eight o) (other o Set n.not-Set) (other o Copy n.not-Copy) (other o MoveIf n.not-MoveIf) (other o Open n.not-Open)

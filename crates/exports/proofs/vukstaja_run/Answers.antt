@@ -1,13 +1,14 @@
--- `exports::vukstaja_run` meets its contract. Rests on the definitions alone.
+-- `exports::vukstaja_run` meets its contract. Rests on Told.
 use mathlib.Core.Path.{◌∙◌, ap}
 use Rattle.exports.specs.Answers.{numbers_of}
+use Rattle.exports.proofs.Told.{by_run}
 use Rattle.exports.proofs.vukstaja_run.Goals as goal
 
 pub returns : goal.returns
 returns c =
     let m = c.run.ensures in
     record {
-      answers = c.run_numbers.ensures ∙ ap numbers_of m.answers;
+      answers = c.numbers.ensures ∙ ap numbers_of (by_run _ ∙ m.answers);
       cells_left_are = m.cells_left_are;
       log_left = m.log_left;
       results_left = m.results_left;

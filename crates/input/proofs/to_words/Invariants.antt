@@ -1,12 +1,8 @@
 -- `input::to_words` meets its contract: before word k, what is left of the words is still to write.
 -- Rests on Handed and lists' Filled.
-use Prim.Native.Nat.{◌-◌}
 use Rattle.lists.proofs.Filled.{Filling}
 use Rattle.printing.specs.Bytes.{whole_words}
 use Rattle.input.proofs.to_words.Given as goal
 
 abbrev pub invariant-loop-k : goal.invariant-loop-k
-invariant-loop-k l = Filling (whole_words l.bytes) l.initial.words l.words l.k
-
-abbrev pub decreases-loop-k : goal.decreases-loop-k
-decreases-loop-k l = l.count - l.k
+invariant-loop-k l = Filling (whole_words l.bytes) l.initial.word-items l.word-items l.k

@@ -6,7 +6,7 @@ use lib.IntN.{pos, negsuc}
 use mir.Syntax.{w64}
 use mir.Val.{to_z}
 use mir.Facts.{to_z_pos, sfits_lit}
-use Rattle.machine.proofs.Tested.{kept, eq_test, ne_test}
+use Rattle.machine.proofs.Tested.{kept, signed_is, eq_test, ne_test}
 use Rattle.intake.proofs.part_of.Goals as goal
 
 -- A field of eight bits as a cell.
@@ -33,4 +33,4 @@ returns-else-value c =
     rw (c.in-Entry.is, ← c.weight-value.ensures, t) (kept _ c.weight-value.type_inv)
 
 pub returns-in-Whole : goal.returns-in-Whole
-returns-in-Whole c = rw c.in-Whole.is (kept _ c.signed.type_inv ∙ c.signed.ensures)
+returns-in-Whole c = rw c.in-Whole.is (kept _ c.cast_signed.type_inv ∙ c.cast_signed.ensures ∙ signed_is c.args.word)

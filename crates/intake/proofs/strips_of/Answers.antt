@@ -1,60 +1,23 @@
--- `intake::strips_of` meets its contract, method by method. Rests on headers' sizes.
-use native.Mathlib.Omega.{arith}
-use Rattle.headers.proofs.Figured.{method_five, sizes}
+-- `intake::strips_of` meets its contract, method by method. Rests on the definitions alone.
 use Rattle.intake.specs.Intake.{strips_of}
 use Rattle.intake.proofs.strips_of.Goals as goal
 
-pub overflow_mul-m : goal.overflow_mul-m
-overflow_mul-m c = let s = sizes _ c.requires in omega arith
-
-pub overflow_mul-n : goal.overflow_mul-n
-overflow_mul-n c = let s = sizes _ c.requires in omega arith
-
-pub overflow_add-m : goal.overflow_add-m
-overflow_add-m c = let s = sizes _ c.requires in omega arith
-
-pub overflow_mul-m-in-3 : goal.overflow_mul-m-in-3
-overflow_mul-m-in-3 c = let s = sizes _ c.requires in omega arith
-
-pub overflow_add-m-in-3 : goal.overflow_add-m-in-3
-overflow_add-m-in-3 c = let s = sizes _ c.requires in omega arith
-
-pub overflow_mul-m-in-4 : goal.overflow_mul-m-in-4
-overflow_mul-m-in-4 c = let s = sizes _ c.requires in omega arith
-
-pub overflow_mul-m-in_default : goal.overflow_mul-m-in_default
-overflow_mul-m-in_default c = let s = sizes _ c.requires in omega arith
-
-pub overflow_mul-m-in_default-2 : goal.overflow_mul-m-in_default-2
-overflow_mul-m-in_default-2 c = let s = sizes _ c.requires in omega arith
-
-pub overflow_add-m-in_default : goal.overflow_add-m-in_default
-overflow_add-m-in_default c = let s = sizes _ c.requires in omega arith
-
-pub overflow_add-m-in_default-2 : goal.overflow_add-m-in_default-2
-overflow_add-m-in_default-2 c = let s = sizes _ c.requires in omega arith
-
-pub returns-in-1 : goal.returns-in-1
+pub returns-in-BellmanFord : goal.returns-in-BellmanFord
 unfolding strips_of
-returns-in-1 c = rw (c.in-1.is, c.edge_strips.ensures, c.new-empty.ensures)
+returns-in-BellmanFord c = rw (← c.in-BellmanFord.ensures, c.edge_strips.ensures, c.new-empty.ensures)
 
-pub returns-in-2 : goal.returns-in-2
+pub returns-in-Dijkstra : goal.returns-in-Dijkstra
 unfolding strips_of
-returns-in-2 c = rw (c.in-2.is, c.new-empty.ensures, c.new.ensures)
+returns-in-Dijkstra c = rw (← c.in-Dijkstra.ensures, c.new-empty.ensures, c.new.ensures)
 
-pub returns-in-3 : goal.returns-in-3
+pub returns-in-Jacobi : goal.returns-in-Jacobi
 unfolding strips_of
-returns-in-3 c = rw (c.in-3.is, c.edge_strips-in-3.ensures, c.new-empty.ensures)
+returns-in-Jacobi c = rw (← c.in-Jacobi.ensures, c.edge_strips-in-Jacobi.ensures, c.new-empty.ensures)
 
-pub returns-in-4 : goal.returns-in-4
+pub returns-in-FloydWarshall : goal.returns-in-FloydWarshall
 unfolding strips_of
-returns-in-4 c = rw (c.in-4.is, c.edge_strips-in-4.ensures, c.new-empty.ensures)
+returns-in-FloydWarshall c = rw (← c.in-FloydWarshall.ensures, c.edge_strips-in-FloydWarshall.ensures, c.new-empty.ensures)
 
-pub returns-in_default : goal.returns-in_default
+pub returns-in-Routed : goal.returns-in-Routed
 unfolding strips_of
-returns-in_default c =
-    rw (
-      method_five _ c.requires (λ e. omega arith) (λ e. omega arith) (λ e. omega arith) (λ e. omega arith),
-      c.edge_strips-in_default.ensures,
-      c.new-in_default.ensures,
-    )
+returns-in-Routed c = rw (← c.in-Routed.ensures, c.edge_strips-in-Routed.ensures, c.new-in-Routed.ensures)

@@ -1,58 +1,53 @@
 -- `marks::deepen` meets its contract. Rests on deepening's Words and Deepening, and on Marks.
-use borrow.Author.Rules.{rules}
+use mathlib.Core.Path.{ap}
 use Prim.Native.Nat.{◌+◌, ◌<◌, ◌≤◌, ◌^◌}
 use native.Mathlib.Omega.{arith}
-use lib.Dec.{T}
 use lib.ListN.{length}
-use mir.Facts.{to_z-of_z}
-use Rattle.machine.specs.Word.{admissible_at}
+use Rattle.machine.proofs.Admitted.{op_below}
 use Rattle.machine.proofs.Parted.{admitted_fields}
-use Rattle.machine.proofs.Tested.{kept}
+use Rattle.machine.proofs.Tested.{kept, bits_is, signed_is}
+use Rattle.ops.specs.Op.{code}
+use Rattle.ops.specs.declared.Op.TheVariants.{Open}
+use Rattle.ops.proofs.Named.{other}
 use Rattle.deepening.proofs.Words.{d_there}
 use Rattle.deepening.proofs.Deepening.{by_most}
 use Rattle.marks.proofs.Marks.{open_saved, other_saved}
 use Rattle.marks.proofs.deepen.Goals as goal
-
-able : (c : goal.After-split-w) → let w = c.split-w.result in
-    T (admissible_at (length c.args.cells.now) w.op w.d w.a w.b)
-able c = admitted_fields c.split-w.ensures.0 _ c.requires.4
+use Rattle.marks.proofs.deepen.Goals.{After-depth_of-depth, In_default}
 
 -- An op other than OPEN writes d, which is there.
-there : (c : goal.Else-w-eq-OPEN) → (c.split-w.result.op < 7) × (c.split-w.result.d < length c.args.cells.now)
+there : (c : In_default) → let w = c.of-w.result in
+    (code w.op < 7) × (w.d < length c.args.cells.now)
 there c =
-    let able : let w = c.split-w.result in T (admissible_at (length c.args.cells.now) w.op w.d w.a w.b) = admitted_fields c.split-w.ensures.0 _ c.requires.4 in
-    d_there _ _ _ _ _ able c.if-w-eq-OPEN.false
+    d_there _ _ _ _ _ (admitted_fields c.of-w.ensures.0 _ c.requires.3) (other _ Open c.in_default.not-Open)
+
+low : (c : After-depth_of-depth) → c.depth_of-depth.result ≤ 2 ^ 31 + 6
+low c = rw c.depth_of-depth.ensures (by_most (2 ^ 31) _ c.requires.4 _)
+
+pub of-w-requires : goal.of-w-requires
+of-w-requires c = op_below _ _ _ _ _ c.requires.3
 
 pub depth_of-depth-requires : goal.depth_of-depth-requires
-depth_of-depth-requires c = (search rules, search rules, able c)
+depth_of-depth-requires c = admitted_fields c.of-w.ensures.0 _ c.requires.3
 
-pub returns-then-w-eq-OPEN : goal.returns-then-w-eq-OPEN
-returns-then-w-eq-OPEN c = open_saved _ _ c.split-w.ensures.0 _ _ c.depth_of-depth.ensures c.if-w-eq-OPEN.true
+pub returns-in-Open : goal.returns-in-Open
+returns-in-Open c = open_saved _ _ c.of-w.ensures.0 _ _ c.depth_of-depth.ensures (ap code c.in-Open.is)
 
-pub slice_copy_out-bits : goal.slice_copy_out-bits
-slice_copy_out-bits c = (there c).1
-
-pub bounds-log-k : goal.bounds-log-k
-bounds-log-k c = c.requires.2
+pub slice_copy_out-cast_unsigned : goal.slice_copy_out-cast_unsigned
+slice_copy_out-cast_unsigned c = (there (goal.at.slice_copy_out-cast_unsigned c).In_default).1
 
 pub join-requires : goal.join-requires
-join-requires c = let l : c.depth_of-depth.result ≤ 2 ^ 31 + 6 = rw c.depth_of-depth.ensures (by_most (2 ^ 31) _ c.requires.5 _) in (omega arith, omega arith, omega arith)
-
-pub signed-requires : goal.signed-requires
-signed-requires c = let l : c.depth_of-depth.result ≤ 2 ^ 31 + 6 = rw c.depth_of-depth.ensures (by_most (2 ^ 31) _ c.requires.5 _) in (omega arith, omega arith, omega (arith, c.join.ensures))
+join-requires c = let l = low (goal.at.join-requires c).After-depth_of-depth in (omega arith, omega arith, omega arith)
 
 pub bounds-cells-d : goal.bounds-cells-d
-bounds-cells-d c =
-    let able : let w = c.split-w.result in T (admissible_at (length c.args.cells.now) w.op w.d w.a w.b) = admitted_fields c.split-w.ensures.0 _ c.requires.4 in
-    let there : (c.split-w.result.op < 7) × (c.split-w.result.d < length c.args.cells.now) = d_there _ _ _ _ _ able c.if-w-eq-OPEN.false in
-    there.1
+bounds-cells-d c = (there (goal.at.bounds-cells-d c).In_default).1
 
 pub returns : goal.returns
 returns c =
-    let low : c.depth_of-depth.result ≤ 2 ^ 31 + 6 = rw c.depth_of-depth.ensures (by_most (2 ^ 31) _ c.requires.5 _) in
-    let able : let w = c.split-w.result in T (admissible_at (length c.args.cells.now) w.op w.d w.a w.b) = admitted_fields c.split-w.ensures.0 _ c.requires.4 in
-    let there : let s = c in (s.split-w.result.op < 7) × (s.split-w.result.d < length s.args.cells.now) = d_there _ _ _ _ _ able c.if-w-eq-OPEN.false in
+    let l = low (goal.at.returns c).After-depth_of-depth in
+    let h = there (goal.at.returns c).In_default in
     let s = c in
-    rw (to_z-of_z (record { sfits = c.signed.type_inv }), c.signed.ensures, c.join.ensures, c.bits.ensures, kept _ c.bits-arg-1.given)
-    (other_saved _ _ c.split-w.ensures.0 s.args.cells.now _ c.depth_of-depth.ensures there.0 there.1 s.requires.2
-    (omega (arith, s.requires.1, s.requires.3)) (omega (arith, low)) c.bits-arg-1.given)
+    rw
+    (kept _ c.cast_signed.type_inv, c.cast_signed.ensures, c.join.ensures, signed_is, c.cast_unsigned.ensures, kept _ c.cast_unsigned-arg-1.given, bits_is)
+    (other_saved _ _ c.of-w.ensures.0 s.args.cells.now _ c.depth_of-depth.ensures h.0 h.1 s.requires.1
+    (omega (arith, s.requires.0, s.requires.2)) (omega (arith, l)) c.cast_unsigned-arg-1.given)

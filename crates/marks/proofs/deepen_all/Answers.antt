@@ -10,31 +10,13 @@ loop-k-init c = none_yet _ _ _
 pub deepen-requires : goal.deepen-requires
 deepen-requires c =
     let i = c.loop-k.invariant in
-    let l = c.loop-k-test.true in (
-      c.column-column.ensures,
-      l,
-      omega (arith, i.long, c.requires.2),
-      c.requires.1,
-      rw i.count (can _ c.args.words.now c.requires.0 _ l),
-      bounded i.deepening l c.requires.1,
-    )
-
-pub overflow_add-k : goal.overflow_add-k
-overflow_add-k c = omega arith
-
-pub loop-k-smaller : goal.loop-k-smaller
-loop-k-smaller c = omega arith
+    let l = c.loop-k-test.true in
+    (l, omega (arith, i.long, c.requires.2), c.requires.1, rw i.count (can _ c.args.words.now c.requires.0 _ l), bounded i.deepening l c.requires.1)
 
 pub loop-k-preserved : goal.loop-k-preserved
 loop-k-preserved c =
-    rw c.greater-rounds.ensures
+    rw c.max-rounds.ensures
     (one_more c.loop-k.invariant c.loop-k-test.true c.deepen.auto.cells c.deepen.auto.log _ c.deepen.ensures)
-
-pub shape_of-cells : goal.shape_of-cells
-shape_of-cells c = c.loop-k.invariant.count
-
-pub shape_of-log : goal.shape_of-log
-shape_of-log c = c.loop-k.invariant.long
 
 pub returns : goal.returns
 returns c = all_marked c.loop-k.invariant c.loop-k-test.false

@@ -1,27 +1,30 @@
 -- `marks::put_back` meets its contract. Rests on deepening's Words.
-use mathlib.Core.Path.{sym, ◌∙◌}
-use Prim.Native.Nat.{◌<◌}
-use lib.ListN.{length}
-use mir.Facts.{to_z-of_z}
+use mathlib.Core.Path.{sym, ap, ◌∙◌}
 use borrow.Author.Tests.{eq-eqb, ne_eqb}
+use Rattle.machine.proofs.Admitted.{op_below}
 use Rattle.machine.proofs.Parted.{admitted_fields}
-use Rattle.marks.specs.Place.{put_back}
+use Rattle.machine.proofs.Tested.{kept, signed_is}
+use Rattle.ops.specs.Op.{code}
+use Rattle.ops.specs.declared.Op.TheVariants.{Open}
+use Rattle.ops.proofs.Named.{other}
 use Rattle.deepening.proofs.Words.{d_there}
+use Rattle.marks.specs.Place.{put_back}
 use Rattle.marks.proofs.put_back.Goals as goal
 
-pub returns-then-w-eq-OPEN : goal.returns-then-w-eq-OPEN
+pub of-w-requires : goal.of-w-requires
+of-w-requires c = op_below _ _ _ _ _ c.requires
+
+pub returns-in-Open : goal.returns-in-Open
 unfolding put_back
-returns-then-w-eq-OPEN c = let f = c.split-w.ensures.0 in rw (eq-eqb _ 7 (f.op_is ∙ c.if-w-eq-OPEN.true))
+returns-in-Open c = rw (eq-eqb _ 7 (c.of-w.ensures.0.op_is ∙ ap code c.in-Open.is))
 
 pub bounds-cells-w : goal.bounds-cells-w
 bounds-cells-w c =
-    let there : let p = c in p.split-w.result.d < length p.args.cells.now =
-    let p = c in
-    (d_there _ _ _ _ _ (admitted_fields p.split-w.ensures.0 _ p.requires) c.if-w-eq-OPEN.false).1 in
-    there
+    (d_there _ _ _ _ _ (admitted_fields c.of-w.ensures.0 _ c.requires) (other _ Open c.in_default.not-Open)).1
 
 pub returns : goal.returns
 unfolding put_back
 returns c =
-    let f = c.split-w.ensures.0 in
-    rw (to_z-of_z (record { sfits = c.signed.type_inv }), c.signed.ensures, ne_eqb _ 7 (λ q. c.if-w-eq-OPEN.false (sym f.op_is ∙ q)), f.d_is)
+    let f = c.of-w.ensures.0 in
+    rw
+    (kept _ c.cast_signed.type_inv, c.cast_signed.ensures, signed_is, ne_eqb _ 7 (λ q. other _ Open c.in_default.not-Open (sym f.op_is ∙ q)), f.d_is)

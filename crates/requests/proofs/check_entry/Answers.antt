@@ -2,8 +2,8 @@
 use Rattle.limits.proofs.Words.{entry_by_weight, spare_entry}
 use Rattle.requests.proofs.check_entry.Goals as goal
 
-pub returns-then-field-eq0 : goal.returns-then-field-eq0
-returns-then-field-eq0 c = search entry_by_weight
+pub returns-then-field-ne0 : goal.returns-then-field-ne0
+returns-then-field-ne0 c = search spare_entry
 
 pub returns : goal.returns
-returns c = search spare_entry
+returns c = search entry_by_weight

@@ -1,25 +1,18 @@
--- `requests::check_words` meets its contract: before word k, what is left meets the refusal that all of them meet. Rests on Words.
-use native.Mathlib.Omega.{arith}
-use Rattle.limits.proofs.Words.{start, refused, again, done}
+-- `requests::check_words` meets its contract, by a law for each way on and out. Rests on Words, and on answers for what `?` hands on.
+use Rattle.answers.proofs.Found.{handed_on}
+use Rattle.limits.proofs.Words.{refused, again, done}
 use Rattle.requests.proofs.check_words.Goals as goal
 
-pub loop-k-init : goal.loop-k-init
-loop-k-init c = search start
+pub returns-in_err-check_word : goal.returns-in_err-check_word
+returns-in_err-check_word c =
+    let l = c.loop-place in
+    handed_on _ _ c.from_residual.ensures.1 _
+    (refused _ _ _ _ l.invariant c.loop-place-test.true _ c.check_word.ensures _ c.in_err-check_word.was)
 
-pub overflow_sub-k : goal.overflow_sub-k
-overflow_sub-k c = omega arith
-
-pub returns-in-Refused : goal.returns-in-Refused
-returns-in-Refused c = search refused
-
-pub overflow_add-k : goal.overflow_add-k
-overflow_add-k c = omega arith
-
-pub loop-k-smaller : goal.loop-k-smaller
-loop-k-smaller c = omega arith
-
-pub loop-k-preserved : goal.loop-k-preserved
-loop-k-preserved c = search again
+pub loop-place-preserved : goal.loop-place-preserved
+loop-place-preserved c =
+    let l = c.loop-place in
+    again _ _ _ _ l.invariant c.loop-place-test.true _ c.check_word.ensures c.in_ok-check_word.was
 
 pub returns : goal.returns
-returns c = search done
+returns c = done _ _ _ _ c.loop-place.invariant c.loop-place-test.false

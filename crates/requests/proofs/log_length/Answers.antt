@@ -5,10 +5,10 @@ use Rattle.limits.proofs.Sizes.{log_opened, log_quiet}
 use Rattle.requests.proofs.log_length.Goals as goal
 
 pub overflow_add-result : goal.overflow_add-result
-overflow_add-result c = omega (arith, c.requires.1.length_is, length_most _ c.requires.0)
+overflow_add-result c = omega (arith, c.requires.length_is, length_most _ c.args.h.within_limits)
 
-pub returns-in-At : goal.returns-in-At
-returns-in-At c = log_opened _ _ _ c.requires.1.length_is (rw c.in-At.is at c.requires.1.verdict_is)
+pub returns-in-Some : goal.returns-in-Some
+returns-in-Some c = log_opened _ _ _ c.requires.length_is (rw c.in-Some.is at c.requires.verdict_is)
 
-pub returns-in-Nothing : goal.returns-in-Nothing
-returns-in-Nothing c = log_quiet _ _ c.requires.1.length_is (rw c.in-Nothing.is at c.requires.1.verdict_is)
+pub returns-in-None : goal.returns-in-None
+returns-in-None c = log_quiet _ _ c.requires.length_is (rw c.in-None.is at c.requires.verdict_is)

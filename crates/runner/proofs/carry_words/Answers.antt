@@ -1,32 +1,26 @@
--- `runner::carry_words` meets its contract: before place k, what is left of the words is still to carry out. Rests on Turn.
-use mathlib.Core.Path.{refl}
+-- `runner::carry_words` meets its contract: before each word, what is left of the words is still to carry out. Rests on Turn and Worked.
 use native.Mathlib.Omega.{arith}
-use Rattle.runner.proofs.Turn.{begin, can, further, finished}
+use mathlib.Core.List.{[]}
+use Rattle.runner.proofs.Turn.{begin, can, further, finished, no_words}
+use Rattle.runner.proofs.Worked.{tail_word, tail_long}
 use Rattle.runner.proofs.carry_words.Goals as goal
 
-pub loop-at-init : goal.loop-at-init
-loop-at-init c = begin _ _ c.requires
-
-pub offset_bounds-words-at : goal.offset_bounds-words-at
-offset_bounds-words-at c = omega arith
-
-pub bounds-words-at : goal.bounds-words-at
-bounds-words-at c = omega arith
+pub loop-word-init : goal.loop-word-init
+loop-word-init c = begin _ _ c.requires
 
 pub step-requires : goal.step-requires
-step-requires c = can c.loop-at.invariant c.loop-at-test.true _ refl
+step-requires c =
+    let l = tail_long c.args.words.now c.in-len1-up.len_at_least in
+    can c.loop-word.invariant (omega arith) _ (tail_word c.args.words.now _)
 
-pub overflow_add-at : goal.overflow_add-at
-overflow_add-at c = omega arith
+pub loop-word-preserved : goal.loop-word-preserved
+loop-word-preserved c =
+    let l = tail_long c.args.words.now c.in-len1-up.len_at_least in
+    further c.loop-word.invariant (omega arith) _ (tail_word c.args.words.now _) _ c.step.ensures
 
-pub loop-at-smaller : goal.loop-at-smaller
-loop-at-smaller c = omega arith
+pub returns-in_default : goal.returns-in_default
+returns-in_default c = (no_words c.args.words.now c.args.cells.now [] (omega arith)).cells_left_are
 
-pub loop-at-preserved : goal.loop-at-preserved
-loop-at-preserved c = further c.loop-at.invariant c.loop-at-test.true _ refl _ c.step.ensures
-
-pub shape_of-cells : goal.shape_of-cells
-shape_of-cells c = c.loop-at.invariant.count
-
-pub returns : goal.returns
-returns c = finished c.loop-at.invariant c.loop-at-test.false
+pub returns-after-loop-word : goal.returns-after-loop-word
+returns-after-loop-word c =
+    let l = tail_long c.args.words.now c.in-len1-up.len_at_least in finished c.loop-word.invariant (omega arith)

@@ -1,11 +1,7 @@
--- `runner::carry_words` meets its contract: before place k, what is left of the words is still to carry out. Rests on Turn.
-use Prim.Native.Nat.{◌-◌}
-use lib.ListN.{length}
+-- `runner::carry_words` meets its contract: before each word, what is left of the words is still to carry out. Rests on Turn.
+use Prim.Native.Nat.{◌+◌}
 use Rattle.runner.proofs.Turn.{Carrying}
 use Rattle.runner.proofs.carry_words.Given as goal
 
-abbrev pub invariant-loop-at : goal.invariant-loop-at
-invariant-loop-at l = Carrying l.words l.initial.cells l.cells l.at
-
-abbrev pub decreases-loop-at : goal.decreases-loop-at
-decreases-loop-at l = length l.words - l.at
+abbrev pub invariant-loop-word : goal.invariant-loop-word
+invariant-loop-word l = Carrying l.words l.initial.cells l.cells (l.word-index + 1)

@@ -1,11 +1,6 @@
 -- `runner::first_bad` meets its contract: the lowest bad place from `place` on is that of the plan. Rests on Lowest.
-use Prim.Native.Nat.{◌-◌}
-use lib.ListN.{length}
 use Rattle.runner.proofs.Lowest.{Seeking}
 use Rattle.runner.proofs.first_bad.Given as goal
 
 abbrev pub invariant-loop-place : goal.invariant-loop-place
 invariant-loop-place l = Seeking l.plan l.count l.place
-
-abbrev pub decreases-loop-place : goal.decreases-loop-place
-decreases-loop-place l = length l.plan - l.place

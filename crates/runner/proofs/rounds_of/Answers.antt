@@ -4,8 +4,8 @@ use native.Mathlib.Omega.{arith}
 use Rattle.runner.proofs.Worked.{none_deep, tail, shorter}
 use Rattle.runner.proofs.rounds_of.Goals as goal
 
-pub returns-then-plan-eq0 : goal.returns-then-plan-eq0
-returns-then-plan-eq0 c = record { charged = none_deep c.args.plan.now c.if-plan-eq0.true; cells_stay = refl; log_beyond = refl }
+pub returns-in_default : goal.returns-in_default
+returns-in_default c = record { charged = none_deep c.args.plan.now (omega arith); cells_stay = refl; log_beyond = refl }
 
 pub depth_of-requires : goal.depth_of-requires
 depth_of-requires c =

@@ -2,8 +2,8 @@
 use Rattle.runner.proofs.Answered.{bad_word, too_short, can_work_out, can_carry, ran}
 use Rattle.runner.proofs.run_plan.Goals as goal
 
-pub returns-in-At : goal.returns-in-At
-returns-in-At c = bad_word _ _ _ _ _ c.at.ensures c.in-At.ensures
+pub returns-in-Some : goal.returns-in-Some
+returns-in-Some c = bad_word _ _ _ _ c.in-Some.ensures
 
 pub returns-then-short : goal.returns-then-short
 returns-then-short c = too_short _ _ _ c.in_default.ensures _ c.log_length-size.ensures c.if-short.true

@@ -1,14 +1,11 @@
 -- `tables::repeat` meets its contract. Rests on Copied.
 use mathlib.Core.List.{List}
-use Prim.Native.Nat.{ℕ, ◌-◌, ◌≤◌}
-use mathlib.Core.Path.{◌≡◌}
-use lib.ListN.{length, take}
+use Prim.Native.Nat.{ℕ, ◌-◌}
+use lib.ListN.{take}
 use Rattle.tables.specs.Writing.{Wrote}
 use Rattle.tables.proofs.Copied.{copies}
 use Rattle.tables.proofs.repeat.Given as goal
 
 abbrev pub invariant-loop-i : goal.invariant-loop-i
-invariant-loop-i l = (l.mid ≤ l.i) × (length l.out ≡ length l.initial.out) × ((ws before : List ℕ) → Wrote ws before l.initial.out l.at l.mid → Wrote (take (l.i - l.at) (copies ws l.count)) before l.out l.at l.i)
-
-abbrev pub decreases-loop-i : goal.decreases-loop-i
-decreases-loop-i l = l.end - l.i
+invariant-loop-i l =
+    (ws before : List ℕ) → Wrote ws before l.initial.out l.at l.mid → Wrote (take (l.i - l.at) (copies ws l.count)) before l.out l.at l.i

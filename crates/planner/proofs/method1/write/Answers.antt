@@ -2,7 +2,6 @@
 use native.Mathlib.Omega.{arith}
 use Rattle.plans.specs.Outline.{instructions}
 use Rattle.plans.specs.Method1 as Method1
-use Rattle.plans.proofs.Headers.{edges_small}
 use Rattle.tables.proofs.Written.{one}
 use Rattle.planner.specs.Written.{solve_words}
 use Rattle.planner.proofs.Tables.{outlined1, first_room, rest_room, all_written}
@@ -11,25 +10,13 @@ use Rattle.planner.proofs.method1.write.Goals as goal
 pub write_solve-next-requires : goal.write_solve-next-requires
 unfolding solve_words
 write_solve-next-requires c =
-    (c.requires.0, first_room Method1.solve _ (outlined1 _ c.requires.0 c.requires.1) c.requires.0 _ c.requires.2)
-
-pub overflow_mul-h : goal.overflow_mul-h
-overflow_mul-h c = omega (arith, edges_small _ c.requires.0)
-
-pub overflow_add-h : goal.overflow_add-h
-overflow_add-h c = omega (arith, edges_small _ c.requires.0)
-
-pub overflow_add-h-2 : goal.overflow_add-h-2
-overflow_add-h-2 c = omega (arith, edges_small _ c.requires.0)
-
-pub pack-requires : goal.pack-requires
-pack-requires c = omega (arith, edges_small _ c.requires.0)
+    first_room Method1.solve _ (outlined1 _ c.args.h.within_limits c.requires.0) c.args.h.within_limits _ c.requires.1
 
 -- Room for one word more.
 pub bounds-plan-next : goal.bounds-plan-next
 unfolding solve_words instructions
 bounds-plan-next c =
-    let room = rest_room Method1.solve _ (outlined1 _ c.requires.0 c.requires.1) c.requires.0 _ c.requires.2 c.write_solve-next.ensures in
+    let room = rest_room Method1.solve _ (outlined1 _ c.args.h.within_limits c.requires.0) c.args.h.within_limits _ c.requires.1 c.write_solve-next.ensures in
     omega (arith, room.fits)
 
 pub offset_bounds-plan-next : goal.offset_bounds-plan-next
@@ -41,5 +28,5 @@ overflow_add-result c = omega (arith, bounds-plan-next c)
 pub returns : goal.returns
 unfolding solve_words instructions
 returns c =
-    all_written Method1.solve _ (outlined1 _ c.requires.0 c.requires.1) c.requires.0 _ c.requires.2 c.write_solve-next.ensures
-    (rw c.pack.ensures (one _ _ _))
+    all_written Method1.solve _ (outlined1 _ c.args.h.within_limits c.requires.0) c.args.h.within_limits _ c.requires.1 c.write_solve-next.ensures
+    (rw (c.pack.ensures, c.code.ensures) (one _ _ _))

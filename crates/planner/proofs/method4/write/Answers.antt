@@ -1,37 +1,11 @@
--- `planner::method4::write` meets its contract: its lines have the rows of the method's outline. Rests on Tables.
-use mathlib.Core.Path.{refl}
+-- `planner::method4::write` meets its contract: its lines have the rows of the method's outline. Rests on Lines and Tables.
 use native.Mathlib.Omega.{arith}
-use Rattle.rows.specs.Rows.{rows_of}
-use Rattle.rows.specs.Code.{place_of, step_of, set_number, set_other, set_step, word_step, row_of_code}
-use Rattle.headers.proofs.Figured.{sizes}
+use Rattle.planner.proofs.Lines.{lines4}
 use Rattle.planner.proofs.Tables.{outlined4, may_write, was_written}
 use Rattle.planner.proofs.method4.write.Goals as goal
 
-pub overflow_mul-d : goal.overflow_mul-d
-overflow_mul-d c = let s = sizes _ c.requires.0 in omega arith
-
-pub overflow_mul-c : goal.overflow_mul-c
-overflow_mul-c c = let s = sizes _ c.requires.0 in omega arith
-
-pub overflow_add-c : goal.overflow_add-c
-overflow_add-c c = let s = sizes _ c.requires.0 in omega arith
-
-pub overflow_mul-env : goal.overflow_mul-env
-overflow_mul-env c = let s = sizes _ c.requires.0 in omega arith
-
-pub overflow_add-env : goal.overflow_add-env
-overflow_add-env c = let s = sizes _ c.requires.0 in omega arith
-
-pub overflow_add-env-2 : goal.overflow_add-env-2
-overflow_add-env-2 c = let s = sizes _ c.requires.0 in omega arith
-
-pub overflow_add-env-3 : goal.overflow_add-env-3
-overflow_add-env-3 c = let s = sizes _ c.requires.0 in omega arith
-
 pub write-requires : goal.write-requires
-unfolding rows_of row_of_code place_of step_of set_number set_other set_step word_step
-write-requires c = (omega arith, may_write (outlined4 _ c.requires.0 c.requires.1) c.requires.0 _ refl _ c.requires.2)
+write-requires c = (omega arith, may_write (outlined4 _ c.args.h.within_limits c.requires.0) c.args.h.within_limits _ (lines4 _ _) _ c.requires.1)
 
 pub returns : goal.returns
-unfolding rows_of row_of_code place_of step_of set_number set_other set_step word_step
-returns c = was_written (outlined4 _ c.requires.0 c.requires.1) c.requires.0 _ refl c.write.ensures
+returns c = was_written (outlined4 _ c.args.h.within_limits c.requires.0) c.args.h.within_limits _ (lines4 _ _) c.write.ensures
