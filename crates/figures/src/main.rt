@@ -156,19 +156,11 @@ fn sparse(draws: &mut Draws, i: u64) -> u64 {
     MINUS_ONE
 }
 
-// How far apart two yards are by number.
-fn apart(u: u64, v: u64) -> u64
-    requires { (u < 32) × (v < 32) }
-    ensures { result < 32 }
-{
-    if v < u { u - v } else { v - u }
-}
-
 // Entry `i` of the dense table, by rows.
 fn dense(draws: &mut Draws, i: u64) -> u64
     requires { i < 1024 }
 {
-    let gap = apart(i / 32, i % 32);
+    let gap = (i / 32).abs_diff(i % 32);
     gap * gap + draws.below(4)
 }
 
@@ -222,7 +214,7 @@ fn sorted_ties(draws: &mut Draws, i: u64) -> u64
 fn word_of(case: Case, draws: &mut Draws, i: u64) -> u64
     requires { i < 1024 }
 {
-    // A sorted case has 128 lanes.
+    // A `match`: the arms are calls with arguments of their own. A sorted case has 128 lanes.
     match case {
         Case::Chain => chain(draws, i),
         Case::Circle(last) => circle(draws, i, 0, last),
@@ -247,7 +239,7 @@ fn build(case: Case, seed: u64, header: u64, request: &mut [u64])
     }
 }
 
-// A checksum over the first `length` words of a log, or over all where there are no more.
+// A checksum over the first `length` words of a log, or over all where there are no more, so that no length is too large.
 fn checksum(log: &[u64], length: usize) -> u64 {
     let mut sum: u64 = 0;
     for word in &log[..length.min(log.len())] {
@@ -298,7 +290,8 @@ fn put_run(
     }
 }
 
-// Runs a request and prints that. Of these, method 3 needs the most cells, and method 1 the longest log.
+// Runs a request and prints that. Of these, method 3 needs the most cells, and method 1 the longest log. What `console::Desk` lends is smaller,
+// and its text another, so the five arrays are made here too.
 fn show(rt: &impl Print, request: &[u64])
     requires { 1 ≤ length request.now }
 {

@@ -62,7 +62,7 @@ pub struct Figures {
     pub route: Span,
 }
 
-// The cells of a kind of results that a method does not give.
+// The cells of a kind of results that a method does not give. No Option: 0 places are asked for, and 0 cells copied.
 const NONE_GIVEN: Span = Span { first: 0, count: 0 };
 
 // A header word taken apart.
@@ -114,7 +114,8 @@ pub fn check_header(h: Header) -> Result<AcceptedHeader, Refusal>
     Ok(AcceptedHeader { header: h })
 }
 
-// An accepted header's method is one of the five.
+// An accepted header's method is one of the five. It is no field of the header's type: those that make the type from a header which a run has
+// accepted (replies, figures) would have to find it there.
 pub fn method_of(h: AcceptedHeader) -> Method
     ensures { number_of result ≡ h.header.method }
 {

@@ -47,6 +47,7 @@ pub fn to_words(bytes: &[u8], words: &mut [u64])
     ensures { words.new ≡ overwritten (whole_words bytes.now) words.old }
 {
     let count = whole_count(bytes.len());
+    // A place among the bytes, as in the definition; a chunk of eight would have to be found to be those at its place.
     for (k, word) in words[..count].iter_mut().enumerate() {
         *word = join_bytes(bytes, 8 * k);
     }

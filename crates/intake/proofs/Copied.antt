@@ -1,19 +1,18 @@
 -- A buffer written over, its first places or those from a place on, one after the other: the loops that do it, and what each place then holds.
--- Rests on blocks and on lists' Sets and Filled.
+-- Rests on blocks and on lists' Sets.
 use mathlib.Core.Path.{◌≡◌, refl, sym, ap, ◌∙◌}
 use mathlib.Core.Logic.{⊎_elim}
-use mathlib.Core.List.{List, [], ◌∷◌, ◌++◌, append-nil}
+use mathlib.Core.List.{List, [], ◌∷◌, ◌++◌}
 use Prim.Native.Nat.{ℕ, zero, suc, ◌+◌, ◌-◌, ◌^◌, ◌<◌, ◌≤◌}
 use native.Mathlib.Nat.{eq-or-lt_of_le, eq-zero-or-pos, le_of_suc-le-suc, not-suc-le-zero}
 use native.Mathlib.Numerals.{add-one}
 use native.Mathlib.Omega.{arith}
 use lib.IntN.{ℤ, pos}
-use lib.ListN.{length, set, get_or, take, drop, length-append, length-drop, get_or-append, drop_of_length-le}
+use lib.ListN.{length, set, get_or, take, drop, replicate, length-append, length-drop, length-replicate, get_or-append, get_or-replicate}
 use Rattle.std.proofs.lemmas.List.{get_or-take}
 use lib.Seq.{sets, length-sets, length-take-le, drop_at, ext_get_or, get_or-append-add, get_or-drop, get_or-set_same, get_or-set_other}
 use lib.Signed.{mag}
 use Rattle.lists.proofs.Sets.{sets_append}
-use Rattle.lists.proofs.Filled.{Filling, again, done}
 use Rattle.machine.proofs.Tested.{back, kept}
 use Rattle.plans.specs.Blocks.{flat}
 use Rattle.plans.proofs.Blocks.{ones_length, ones_at}
@@ -25,30 +24,6 @@ module _ (count : ℕ) (f : ℕ → ℤ) where
   ones = flat count (λ k. f k ∷ [])
 
   module _ (buffer : List ℤ) where
-    -- ---- the loop; v is the number that the code has for place k
-
-    module _ (now : List ℤ) (k : ℕ) (fills : Filling ones buffer now k) where
-      pub one_copied : (v : ℤ) → mag v < 2 ^ 63 → v ≡ f k → k < count → Filling ones buffer (set now k (back v)) (k + 1)
-      one_copied v small e l =
-          again ones buffer now k (back v) (pos 0) (omega (arith, ones_length f count))
-          (kept v small ∙ e ∙ sym (ones_at f count (pos 0) k l)) fills
-
-      pub all_copied : count ≤ k → count ≤ length buffer → now ≡ copied count f buffer
-      unfolding copied
-      all_copied g l =
-          done ones buffer now k (omega (arith, ones_length f count)) (omega (arith, ones_length f count)) fills
-          ∙ ap (λ (j : ℕ). ones ++ drop j buffer) (ones_length f count)
-
-    -- The loop goes over the first `count` places alone.
-    pub ones_written : (first : List ℤ) (k : ℕ) → count ≤ length buffer → Filling ones (take count buffer) first k
-        → length (take count buffer) ≤ k → first ++ drop count buffer ≡ copied count f buffer
-    unfolding copied
-    ones_written first k l fills g =
-        let long : length (take count buffer) ≡ count = length-take-le count buffer l in
-        let whole = done ones (take count buffer) first k (omega (arith, ones_length f count)) (omega (arith, ones_length f count)) fills in
-        let none : drop (length ones) (take count buffer) ≡ [] = drop_of_length-le (take count buffer) (omega (arith, ones_length f count)) in
-        ap (λ (xs : List ℤ). xs ++ drop count buffer) (whole ∙ ap (λ (xs : List ℤ). ones ++ xs) none ∙ append-nil ones)
-
     -- ---- what each place then holds
 
     pub copied_long : count ≤ length buffer → length (copied count f buffer) ≡ length buffer
@@ -73,6 +48,18 @@ module _ (count : ℕ) (f : ℕ → ℤ) where
         ∙ get_or-append-add ones (drop count buffer) (k - count) (pos 0)
         ∙ get_or-drop count buffer (k - count) (pos 0)
         ∙ ap (λ (j : ℕ). get_or buffer j (pos 0)) d
+
+-- What is filled with one number.
+pub filled : (count n : ℕ) (v : ℤ) (buffer first : List ℤ) → n ≡ count → first ≡ replicate n v
+    → first ++ drop count buffer ≡ copied count (λ k. v) buffer
+unfolding copied
+filled count n v buffer first e is =
+    let f = λ (k : ℕ). v in
+    let long = length-replicate count v in
+    let same : replicate count v ≡ ones count f =
+    ext_get_or v _ _ (long ∙ sym (ones_length f count))
+    (λ k l. get_or-replicate count k v v (omega (arith, long)) ∙ sym (ones_at f count v k (omega (arith, long)))) in
+    ap (λ (xs : List ℤ). xs ++ drop count buffer) (is ∙ ap (λ (j : ℕ). replicate j v) e ∙ same)
 
 -- What is copied from a row of places is that part of the list.
 pub part_copied : (count first : ℕ) (xs : List ℤ) → first + count ≤ length xs

@@ -53,7 +53,8 @@ fn edge_strips(m: usize, to: usize, weight: usize, last: Strip) -> [Strip; 4]
     ]
 }
 
-// The strips of the header's method, then empty ones: an array, since nothing is allocated, and of one length, so that one loop lays them.
+// The strips of the header's method (a `match`, as `headers::Method` says), then empty ones: an array, since nothing is allocated, and of one
+// length, so that one loop lays them.
 fn strips_of(h: AcceptedHeader) -> [Strip; 4]
     ensures { result ≡ padded (strips_of h.header) }
 {
@@ -74,6 +75,7 @@ fn strips_of(h: AcceptedHeader) -> [Strip; 4]
     }
 }
 
+// A number from a word. A `match`: a function for each part would be a line and a contract more.
 fn part_of(part: Part, word: u64) -> i64
     ensures { result ≡ part_of part word }
 {
@@ -103,14 +105,12 @@ fn lay_strip(strip: Strip, words: &[u64], cells: &mut [i64])
     }
 }
 
-// The first `count` cells at 0.
+// The first `count` cells at 0. A count beside the cells, as the definition has it, here and in a strip.
 fn clear(count: usize, cells: &mut [i64])
     requires { count ≤ length cells.old }
     ensures { cells.new ≡ copied count (λ k. pos 0) cells.old }
 {
-    for cell in &mut cells[..count] {
-        *cell = 0;
-    }
+    cells[..count].fill(0);
 }
 
 // The needed cells laid, from the words after the header; the others stay.

@@ -38,6 +38,7 @@ fn put_shown(text: &mut Text<'_>, number: Option<i64>, after: u8)
 }
 
 // Whether a vertex has no line.
+// `all` goes along with the text from here up and is no part of it: here alone it is looked at.
 fn left_out(all: bool, distance: i64) -> bool
     ensures { result ≡ left_out all distance }
 {

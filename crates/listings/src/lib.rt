@@ -78,10 +78,7 @@ pub fn put_route(text: &mut Text<'_>, h: Header, route: &[i64; 31])
     requires { Room 688 text.old × (0 < h.vertices) × (h.vertices ≤ 32) }
     ensures { Appended 688 (route_text h route.now) text.old text.new }
 {
-    let Ok(method) = Method::try_from(h.method) else {
-        return;
-    };
-    let Method::Routed = method else {
+    let Ok(Method::Routed) = Method::try_from(h.method) else {
         return;
     };
     text.put_bytes(b"route");
@@ -89,7 +86,7 @@ pub fn put_route(text: &mut Text<'_>, h: Header, route: &[i64; 31])
     text.put_byte(b'\n');
 }
 
-// The first `count` words, a line each.
+// The first `count` words, a line each. A count beside them, here and above, since the definitions speak of a log's or a result's first ones.
 pub fn put_words(text: &mut Text<'_>, words: &[u64], count: usize)
     requires { Room (17 * count) text.old × (count ≤ length words.now) }
     ensures { Appended (17 * count) (words_text count words.now) text.old text.new }

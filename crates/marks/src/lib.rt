@@ -69,6 +69,8 @@ fn deepen(column: &Column, words: &[u64], cells: &mut [i64], log: &mut [u64], k:
     depth
 }
 
+// Words, cells and log are lent side by side: a struct of the three would have to say of cells and log that they stay those that were lent.
+
 // The greatest of all words, with every cell that they write marked.
 fn deepen_all(words: &[u64], cells: &mut [i64], log: &mut [u64]) -> u64
     requires { Admitted (length cells.old) words.now × (length words.now ≤ 2 ^ 24) × (length words.now ≤ length log.old) }

@@ -26,7 +26,7 @@ pub enum Op {
 }
 
 impl Op {
-    // The op of a code; a word's op field may hold one that is none.
+    // The op of a code; a word's op field may hold one that is none, and a missing op has nothing to say, so it is no conversion with an error.
     pub fn parse(field: u64) -> Option<Op>
         ensures { MatchOption result (8 ≤ field) (λ op. code op ≡ field) }
     {
@@ -68,11 +68,12 @@ pub struct Parts {
     pub d: u64,
     pub a: u64,
     pub b: u64,
+    pub ghost narrow: { (op < 2 ^ 4) × (d < 2 ^ 20) × (a < 2 ^ 20) × (b < 2 ^ 20) },
 }
 
 // A word taken apart.
 pub fn split(word: u64) -> Parts
-    ensures { FieldsAre word result.op result.d result.a result.b × (result.op < 2 ^ 4) × (result.d < 2 ^ 20) × (result.a < 2 ^ 20) × (result.b < 2 ^ 20) }
+    ensures { FieldsAre word result.op result.d result.a result.b }
 {
     Parts {
         op: fields::field(word, 60, 4),
@@ -89,13 +90,13 @@ pub struct Operation {
     pub d: u64,
     pub a: u64,
     pub b: u64,
+    pub ghost narrow: { (d < 2 ^ 20) × (a < 2 ^ 20) × (b < 2 ^ 20) },
 }
 
 impl Operation {
     // A word as an operation, where its op field holds the code of one.
     pub fn parse(word: u64) -> Option<Operation>
-        ensures { MatchOption result (8 ≤ op_field word)
-            (λ w. FieldsAre word (code w.op) w.d w.a w.b × (w.d < 2 ^ 20) × (w.a < 2 ^ 20) × (w.b < 2 ^ 20)) }
+        ensures { MatchOption result (8 ≤ op_field word) (λ w. FieldsAre word (code w.op) w.d w.a w.b) }
     {
         let w = split(word);
         let op = Op::parse(w.op)?;
@@ -110,7 +111,7 @@ impl Operation {
     // The same of a word that is one, as each that cells admit.
     pub fn of(word: u64) -> Operation
         requires { op_field word < 8 }
-        ensures { FieldsAre word (code result.op) result.d result.a result.b × (result.d < 2 ^ 20) × (result.a < 2 ^ 20) × (result.b < 2 ^ 20) }
+        ensures { FieldsAre word (code result.op) result.d result.a result.b }
     {
         Operation::parse(word).unwrap()
     }
@@ -186,7 +187,7 @@ fn constant(a: u64, b: u64) -> i64
 
 // An instruction, by its fields, carried out.
 fn step_fields(cells: &mut [i64], w: Operation)
-    requires { (w.a < 2 ^ 20) × (w.b < 2 ^ 20) × T (admissible_at (length cells.old) (code w.op) w.d w.a w.b) }
+    requires { T (admissible_at (length cells.old) (code w.op) w.d w.a w.b) }
     ensures { cells.new ≡ carry (decode_at (code w.op) w.d w.a w.b) cells.old }
 {
     match w.op {
@@ -216,7 +217,8 @@ pub fn step(cells: &mut [i64], word: u64)
 
 // ---- logging
 
-// An admissible word written to the log, with the published cell after an OPEN; the place after them.
+// An admissible word written to the log, with the published cell after an OPEN; the place after them. The log and the place stay two: one caller
+// writes words, and a struct of both would only be made, lent and taken apart there.
 pub fn append(cells: &[i64], log: &mut [u64], at: usize, word: u64) -> usize
     requires { T (admissible (length cells.now) word) × (at + length (logged word cells.now) ≤ length log.old) }
     ensures { (result ≡ at + length (logged word cells.now)) × (log.new ≡ sets log.old at (logged word cells.now)) }

@@ -17,8 +17,8 @@ ghost use Rattle.planner.specs.Written.{WrittenPlan};
 use answers::Refusal;
 use headers::{AcceptedHeader, Method};
 
-// The operation words of the header's plan, written after its header word; the plan's length. That there is room is said of the header and of a
-// lent buffer together, so no type has it.
+// The operation words of the header's plan, written after its header word, by a function for headers of the method (`headers::Method` says
+// why); the plan's length. That there is room is said of the header and of a lent buffer together, so no type has it.
 fn write_words(h: AcceptedHeader, plan: &mut [u64]) -> usize
     requires { length_of h.header ≤ length plan.old }
     ensures { Wrote (drop 1 (plan_of h.header)) plan.old plan.new 1 result }

@@ -77,6 +77,5 @@ pub fn write(h: AcceptedHeader, plan: &mut [u64]) -> usize
         u + 4 * n,
         u + 5 * n,
     ];
-    let mut table = [rows::EMPTY; 27];
-    tables::write(&LINES, n, &env, h.header.source, &mut table, plan, 1)
+    tables::write(&LINES, n, &env, h.header.source, plan, 1)
 }

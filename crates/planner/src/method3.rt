@@ -121,6 +121,5 @@ pub fn write(h: AcceptedHeader, plan: &mut [u64]) -> usize
         s + m,
         s + m + n * m,
     ];
-    let mut table = [rows::EMPTY; 49];
-    tables::write(&LINES, n, &env, h.header.source, &mut table, plan, 1)
+    tables::write(&LINES, n, &env, h.header.source, plan, 1)
 }

@@ -107,6 +107,5 @@ pub fn write(h: AcceptedHeader, plan: &mut [u64]) -> usize
         c + 2 * n,
         c + 3 * n,
     ];
-    let mut table = [rows::EMPTY; 44];
-    tables::write(&LINES, n, &env, h.header.source, &mut table, plan, 1)
+    tables::write(&LINES, n, &env, h.header.source, plan, 1)
 }

@@ -62,7 +62,6 @@ pub fn write(h: AcceptedHeader, plan: &mut [u64]) -> usize
         x + 9,
         d + 4 * n + 9,
     ];
-    let mut table = [rows::EMPTY; 15];
     let next = crate::method1::write_solve(h, plan);
-    tables::write(&LINES, n, &env, h.header.source, &mut table, plan, next)
+    tables::write(&LINES, n, &env, h.header.source, plan, next)
 }

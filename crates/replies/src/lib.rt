@@ -14,7 +14,8 @@ use headers::AcceptedHeader;
 use plans::Header;
 use text::Text;
 
-// `method yards lanes source rounds verdict`, the rows, and the route. The results come in three arrays, as a run is lent them.
+// `method yards lanes source rounds verdict`, the rows, and the route. The results come in three arrays, as a run is lent them: a
+// struct of the three would be made for each call and taken apart in it.
 fn put_results(
     text: &mut Text<'_>,
     all: bool,

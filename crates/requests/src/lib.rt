@@ -142,7 +142,7 @@ fn check_entry(place: usize, word: u64) -> Result<(), Refusal>
     check_weight(plans::NO_EDGE, place, word)
 }
 
-// The word at a place, by the method; `before` is the one before it.
+// The word at a place, by the method (a `match`, as `headers::Method` says); `before` is the one before it.
 fn check_word(h: AcceptedHeader, place: usize, before: u64, word: u64) -> Result<(), Refusal>
     ensures { found result ≡ word_refusal h.header place before word }
 {
@@ -165,7 +165,7 @@ fn check_words(h: AcceptedHeader, words: &[u64]) -> Result<(), Refusal>
     Ok(())
 }
 
-// How many words have a place, an edge's or an entry's each.
+// How many words have a place, an edge's or an entry's each, by the method.
 fn placed_count(h: AcceptedHeader) -> usize
     ensures { result ≡ placed_count h.header.method h.header.vertices h.header.edges }
 {

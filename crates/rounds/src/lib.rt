@@ -63,7 +63,7 @@ fn method5(h: AcceptedHeader) -> u64
     m * ((n - 1) * (n + 9)) + u64::max(m * n + n + 16, m + n * n + 5 * n + 1)
 }
 
-// The rounds of the header's plan, and so of every run of it.
+// The rounds of the header's plan, and so of every run of it: a `match` and functions for headers of a method, as `headers::Method` says.
 pub fn rounds_of(h: AcceptedHeader) -> u64
     ensures { result ≡ rounds_of_plan h.header }
 {

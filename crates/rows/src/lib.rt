@@ -6,6 +6,8 @@ ghost use Rattle.std.specs.Prelude.{◌≡◌, map, ◌+◌, ◌^◌, ◌<◌, �
 ghost use Rattle.machine.specs.Instruction.{All};
 ghost use Rattle.rows.specs.Code.{place_of, flags_of, set_number, set_other, set_step, word_step, set_row, instruction_row, over_of, row_of_code};
 
+use ops::Op;
+
 // A word that moves with the counters: where they are 0, what a step of each adds, and what is added unless the inner counter is the source.
 #[derive(Clone, Copy)]
 pub struct Moving {
@@ -149,7 +151,7 @@ fn other_of(code: u64) -> u64
     if b == FROM_SOURCE { FAR } else { 0 }
 }
 
-// What a loop's line counts.
+// What a loop's line counts: numbers above those of the ops.
 fn over_of(op: u64) -> Over
     ensures { result ≡ over_of op }
 {
@@ -244,10 +246,12 @@ impl Places<'_> {
         ensures { result ≡ row_of_code self.now.width self.now.env.now code }
     {
         let op = fields::field(code, 60, 4);
-        match op {
-            0 => Row::Word(self.set(code)),
-            1..=7 => Row::Word(self.instruction(code, op)),
-            _ => Row::Loop {
+        match Op::parse(op) {
+            Some(named) => Row::Word(match named {
+                Op::Set => self.set(code),
+                _ => self.instruction(code, op),
+            }),
+            None => Row::Loop {
                 over: over_of(op),
                 turns: self.place(code, 20),
                 rows: fields::field(code, 0, 20) as usize,
@@ -262,6 +266,7 @@ pub fn assemble(lines: &[u64], width: u64, env: &[u64], table: &mut [Row])
     ensures { (length table.new ≡ length table.old) × (take (length lines.now) table.new ≡ map (row_of_code width env.now) lines.now) }
 {
     let places = Places { width, env };
+    // An index: over pairs, by `table.iter_mut().zip(lines)`, the proof did not close, since what is written has no name in the invariant.
     for (k, line) in lines.iter().enumerate() {
         table[k] = places.row(*line);
     }

@@ -33,7 +33,7 @@ fn bad(word: u64, place: usize, count: usize) -> bool
 fn first_bad(plan: &[u64], count: usize) -> Option<usize>
     ensures { result ≡ found_of (first_bad count 1 (drop 1 plan.now)) }
 {
-    // An index: it is the place that is answered.
+    // An index from 1 on: it is the place that is answered, and `enumerate` counts from 0.
     for place in 1..plan.len() {
         if bad(plan[place], place, count) {
             return Some(place);
@@ -47,6 +47,7 @@ fn log_length(plan: &[u64]) -> usize
     ensures { result ≡ log_size plan.now }
 {
     let mut size = plan.len();
+    // No `filter(..).count()`: its closure would take a contract, longer than the loop.
     if let [_, operations @ ..] = plan {
         for word in operations {
             if ops::opens(*word) {

@@ -41,6 +41,7 @@ fn repeat(count: u64, out: &mut [u64], at: usize, mid: usize) -> usize
 {
     let size = mid - at;
     let end = at + count as usize * size;
+    // An index: what is copied has just been written.
     for i in mid..end {
         out[i] = out[i - size];
     }
@@ -49,7 +50,8 @@ fn repeat(count: u64, out: &mut [u64], at: usize, mid: usize) -> usize
 
 // ---- rows
 
-// A row of a run: a word. A loop, which no plan has there, counts for a word of its turns and its rows.
+// A row of a run: a word. A loop, which no plan has there, counts for a word of its turns and its rows, as in the definition, which has to say
+// something of every row.
 fn moving_of(row: Row) -> Moving
     ensures { result ≡ moving_of row }
 {
@@ -195,20 +197,20 @@ impl Writer {
     }
 }
 
-// The words of a plan's lines, written from `at` on; the place after them. Their rows go to `table`.
-pub fn write(
-    lines: &[u64],
+// The words of a plan's lines, written from `at` on; the place after them.
+pub fn write<const LINES: usize>(
+    lines: &[u64; LINES],
     width: u64,
     env: &[u64],
     source: u64,
-    table: &mut [Row],
     out: &mut [u64],
     at: usize,
 ) -> usize
-    requires { (length lines.now ≤ length table.old) × Writable width env.now lines.now source out.old at }
+    requires { (48 * LINES < 2 ^ 63) × Writable width env.now lines.now source out.old at }
     ensures { Wrote (lines_words width env.now lines.now source) out.old out.new at result }
 {
-    rows::assemble(lines, width, env, table);
+    let mut table = [rows::EMPTY; LINES];
+    rows::assemble(lines, width, env, &mut table);
     let start = Writer {
         source,
         k: Counters {
@@ -217,5 +219,5 @@ pub fn write(
             inner: 0,
         },
     };
-    start.words(&table[..lines.len()], out, at)
+    start.words(&table, out, at)
 }

@@ -3,5 +3,5 @@ use Rattle.headers.proofs.read_header.Goals as goal
 
 pub returns : goal.returns
 returns c =
-    let f = c.split-w.ensures.0 in
+    let f = c.split-w.ensures in
     rw (f.op_is, f.d_is, f.a_is, f.b_is)

@@ -19,7 +19,7 @@ use Rattle.marks.proofs.deepen.Goals.{After-depth_of-depth, In_default}
 there : (c : In_default) → let w = c.of-w.result in
     (code w.op < 7) × (w.d < length c.args.cells.now)
 there c =
-    d_there _ _ _ _ _ (admitted_fields c.of-w.ensures.0 _ c.requires.3) (other _ Open c.in_default.not-Open)
+    d_there _ _ _ _ _ (admitted_fields c.of-w.ensures _ c.requires.3) (other _ Open c.in_default.not-Open)
 
 low : (c : After-depth_of-depth) → c.depth_of-depth.result ≤ 2 ^ 31 + 6
 low c = rw c.depth_of-depth.ensures (by_most (2 ^ 31) _ c.requires.4 _)
@@ -28,10 +28,10 @@ pub of-w-requires : goal.of-w-requires
 of-w-requires c = op_below _ _ _ _ _ c.requires.3
 
 pub depth_of-depth-requires : goal.depth_of-depth-requires
-depth_of-depth-requires c = admitted_fields c.of-w.ensures.0 _ c.requires.3
+depth_of-depth-requires c = admitted_fields c.of-w.ensures _ c.requires.3
 
 pub returns-in-Open : goal.returns-in-Open
-returns-in-Open c = open_saved _ _ c.of-w.ensures.0 _ _ c.depth_of-depth.ensures (ap code c.in-Open.is)
+returns-in-Open c = open_saved _ _ c.of-w.ensures _ _ c.depth_of-depth.ensures (ap code c.in-Open.is)
 
 pub slice_copy_out-cast_unsigned : goal.slice_copy_out-cast_unsigned
 slice_copy_out-cast_unsigned c = (there (goal.at.slice_copy_out-cast_unsigned c).In_default).1
@@ -49,5 +49,5 @@ returns c =
     let s = c in
     rw
     (kept _ c.cast_signed.type_inv, c.cast_signed.ensures, c.join.ensures, signed_is, c.cast_unsigned.ensures, kept _ c.cast_unsigned-arg-1.given, bits_is)
-    (other_saved _ _ c.of-w.ensures.0 s.args.cells.now _ c.depth_of-depth.ensures h.0 h.1 s.requires.1
+    (other_saved _ _ c.of-w.ensures s.args.cells.now _ c.depth_of-depth.ensures h.0 h.1 s.requires.1
     (omega (arith, s.requires.0, s.requires.2)) (omega (arith, l)) c.cast_unsigned-arg-1.given)

@@ -6,4 +6,4 @@ pub returns-then-opens : goal.returns-then-opens
 returns-then-opens c = rw (sym c.opens.ensures ∙ c.if-opens.true)
 
 pub returns : goal.returns
-returns c = rw (sym c.opens.ensures ∙ c.if-opens.false, c.split-w.ensures.0.d_is)
+returns c = rw (sym c.opens.ensures ∙ c.if-opens.false, c.split-w.ensures.d_is)

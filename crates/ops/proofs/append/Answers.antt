@@ -12,7 +12,7 @@ use Rattle.ops.proofs.append.Goals as goal
 whole : (c : goal.After-cast_unsigned) → let s = c.args in
     logged s.word s.cells.now ≡ s.word ∷ c.cast_unsigned.result ∷ []
 whole c =
-    let f = c.of-w.ensures.0 in
+    let f = c.of-w.ensures in
     logged_open _ _ (f.op_is ∙ ap code c.in-Open.is) ∙ rw (c.cast_unsigned.ensures, kept _ c.cell-1.given, bits_is, f.a_is)
 
 pub of-w-requires : goal.of-w-requires
@@ -23,7 +23,7 @@ bounds-log-at c = omega (arith, logged_some c.args.word c.args.cells.now, c.requ
 
 pub bounds-cells-w : goal.bounds-cells-w
 bounds-cells-w c =
-    let f = c.of-w.ensures.0 in
+    let f = c.of-w.ensures in
     let h = open_a _ _ _ _ _ c.requires.0 (f.op_is ∙ ap code c.in-Open.is) in
     omega (arith, f.a_is)
 
@@ -34,4 +34,4 @@ pub returns-in-Open : goal.returns-in-Open
 returns-in-Open c = two_more _ _ _ _ (whole c)
 
 pub returns : goal.returns
-returns c = one_more _ _ _ (logged_other _ _ (λ e. other _ Open c.in_default.not-Open (sym c.of-w.ensures.0.op_is ∙ e)))
+returns c = one_more _ _ _ (logged_other _ _ (λ e. other _ Open c.in_default.not-Open (sym c.of-w.ensures.op_is ∙ e)))

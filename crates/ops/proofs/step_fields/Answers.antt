@@ -15,19 +15,19 @@ rest : (c : In_default) → let w = c.args.w in
 rest c =
     let n = c.in_default in
     let o = c.args.w.op in
-    rest_in _ _ _ _ _ c.requires.2 (other o Set n.not-Set) (other o Open n.not-Open)
+    rest_in _ _ _ _ _ c.requires (other o Set n.not-Set) (other o Open n.not-Open)
 
 pub move_if-requires : goal.move_if-requires
 move_if-requires c =
     let e = ap code c.in-MoveIf.is in
-    let h = rest_in _ _ _ _ _ c.requires.2 (λ q. omega arith) (λ q. omega arith) in
+    let h = rest_in _ _ _ _ _ c.requires (λ q. omega arith) (λ q. omega arith) in
     (h.1, h.2, h.3)
 
 pub offset_bounds-cells-w : goal.offset_bounds-cells-w
-offset_bounds-cells-w c = let h = set_d _ _ _ _ _ c.requires.2 (ap code c.in-Set.is) in omega arith
+offset_bounds-cells-w c = let h = set_d _ _ _ _ _ c.requires (ap code c.in-Set.is) in omega arith
 
 pub bounds-cells-w : goal.bounds-cells-w
-bounds-cells-w c = set_d _ _ _ _ _ c.requires.2 (ap code c.in-Set.is)
+bounds-cells-w c = set_d _ _ _ _ _ c.requires (ap code c.in-Set.is)
 
 pub slice_copy_out-x : goal.slice_copy_out-x
 slice_copy_out-x c = (rest c).2

@@ -5,7 +5,7 @@ use Rattle.planner.proofs.Tables.{may_solve, was_solved}
 use Rattle.planner.proofs.method1.write_solve.Goals as goal
 
 pub write-requires : goal.write-requires
-write-requires c = (omega arith, may_solve _ c.args.h.within_limits _ (solve_lines _ _) c.requires)
+write-requires c = (omega arith, (omega arith, may_solve _ c.args.h.within_limits _ (solve_lines _ _) c.requires))
 
 pub returns : goal.returns
 returns c = was_solved _ c.args.h.within_limits _ (solve_lines _ _) c.write.ensures

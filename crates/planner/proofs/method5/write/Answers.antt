@@ -18,7 +18,10 @@ pub write-requires : goal.write-requires
 unfolding solve_words instructions
 write-requires c = (
   omega arith,
-  rest_may_write Method1.solve Method5.show (outlined5 _ c.args.h.within_limits c.requires.0) c.args.h.within_limits _ c.requires.1 c.write_solve-next.ensures _ (lines5 _ _),
+  (
+    omega arith,
+    rest_may_write Method1.solve Method5.show (outlined5 _ c.args.h.within_limits c.requires.0) c.args.h.within_limits _ c.requires.1 c.write_solve-next.ensures _ (lines5 _ _),
+  ),
 )
 
 pub returns : goal.returns
