@@ -25,6 +25,7 @@ SHAPES = [
     r"is not in scope|is no name",
     r"that can be named from here",
     r"was not admitted",
+    r"declarations? that depends? on ",
     r"unexpected|expected (the end|an? (item|expression|pattern|type)\b)|operand is missing|cannot continue|syntax",
     r"too (many|few) arguments",
     # Specs hold definitions alone: what fails there is that one of them makes no sense, and no fact about it.

@@ -1,5 +1,5 @@
 -- An answer in document 01's terms, and that of a refusal. Rests on refusals.
-use Rattle.std.specs.Prelude.{◌≡◌, false, List, [], ℕ, eqb}
+use Rattle.std.specs.Prelude.{◌≡◌, Result, Ok, Err, false, List, [], ℕ, eqb}
 use Rattle.std.proofs.Math.Option.{Option}
 use Rattle.answers.specs.Refusal.{Refusal}
 use Rattle.answers.specs.Refusal.{place_of}
@@ -13,6 +13,11 @@ pub record Told : Type 0 where
 -- A refusal tells only its number and its place.
 abbrev pub refused : Refusal → Told
 refused r = record { number = r.number; place = place_of r; values = [] }
+
+-- What an answer tells, by what its parts tell.
+abbrev pub told_in : {T E : Type 0} → (T → Told) → (E → Told) → Result T E → Told
+told_in done failed (Ok x) = done x
+told_in done failed (Err e) = failed e
 
 -- Its number is not one that a run is told by, 0 or 12.
 abbrev pub Apart : Refusal → Type 0

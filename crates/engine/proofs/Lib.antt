@@ -1,3 +1,4 @@
 pub mod Placed
 pub mod Carries
 pub mod Answered
+pub mod Told

@@ -29,7 +29,7 @@ fn publish(verdict: Option<usize>, cells: &[i64], log: &mut [u64], at: usize) ->
 {
     match verdict {
         Some(cell) => {
-            log[at] = cells[cell].cast_unsigned();
+            log[at] = fields::bits(cells[cell], 64);
             at + 1
         }
         None => at,
@@ -65,12 +65,16 @@ fn verdict_left(verdict: Option<usize>, cells: &[i64]) -> u64
     }
 }
 
-// Results: a row of cells copied to the start of a buffer.
+// Results: a row of cells copied to the start of a buffer. By a loop: `copy_from_slice` would need `memmove` of whoever links the library, and it
+// needs `memset` alone (docs/CALLING.md).
 fn copy_out(cells: &[i64], span: Span, out: &mut [i64])
     requires { (span.first + span.count ≤ length cells.now) × (span.count ≤ length out.old) }
     ensures { out.new ≡ copied span.count (λ i. cell_at cells.now (span.first + i)) out.old }
 {
-    out[..span.count].copy_from_slice(&cells[span.first..span.first + span.count]);
+    for i in 0..span.count {
+        let number = cells[span.first + i];
+        out[i] = number;
+    }
 }
 
 // A request run. Every refusal but 12 leaves the buffers; with 12 there are no results.

@@ -4,7 +4,7 @@ use Prim.Native.Nat.{ℕ}
 use Rattle.std.specs.Prelude.{Result, Ok, Err}
 use Rattle.answers.specs.declared.Refusal.{Refusal}
 use Rattle.answers.specs.Refusal.{Checked, rule_of}
-use Rattle.answers.specs.Told.{refused}
+use Rattle.answers.specs.Told.{refused, told_in}
 use Rattle.limits.specs.declared.Lengths.{Lengths}
 use Rattle.limits.specs.Sizes.{asking}
 use Rattle.requests.specs.Sizes.{told_by_sizes}
@@ -12,12 +12,6 @@ use Rattle.planner.specs.Written.{told_by_writing}
 use Rattle.runner.specs.declared.PlanReport.{PlanReport}
 use Rattle.runner.specs.Runner.{told_by_plan}
 use Rattle.saved.specs.Saved.{told_by_conversion}
-use Rattle.engine.specs.Answer.{Answer, told_by_run}
-use Rattle.exports.specs.Answers.{told_in}
-
-pub by_run : (answer : Answer) → told_in (λ r. told_by_run (Ok r)) (λ e. told_by_run (Err e)) answer ≡ told_by_run answer
-by_run (Ok r) = refl
-by_run (Err e) = refl
 
 pub by_plan : (answer : Result PlanReport Refusal)
     → told_in (λ t. told_by_plan (Ok t)) (λ r. refused (rule_of r)) answer ≡ told_by_plan answer

@@ -1,6 +1,6 @@
 -- Answers for callers that know only numbers (docs/CALLING.md), and what calls leave in lent buffers: the outcome that `run`, `run_plan`,
 -- `write_plan` and `convert` promise, by the same definitions. Rests on those.
-use Rattle.std.specs.Prelude.{◌≡◌, Result, Ok, Err, List, [], ◌∷◌, ℕ, ℤ, length, get_or}
+use Rattle.std.specs.Prelude.{◌≡◌, List, [], ◌∷◌, ℕ, ℤ, length, get_or}
 use Rattle.std.proofs.Math.Option.{Option, none, some}
 use Rattle.answers.specs.Told.{Told}
 use Rattle.plans.specs.Plan.{Kind}
@@ -20,11 +20,6 @@ numbers_of t =
     t.number
     ∷ place_numbers t.place
     (get_or t.values 0 0 ∷ get_or t.values 1 0 ∷ get_or t.values 2 0 ∷ get_or t.values 3 0 ∷ get_or t.values 4 0 ∷ [])
-
--- What an answer tells, by what its parts tell.
-abbrev pub told_in : {T E : Type 0} → (T → Told) → (E → Told) → Result T E → Told
-told_in done failed (Ok x) = done x
-told_in done failed (Err e) = failed e
 
 pub record LeftByRun (o : Outcome) (answer : List ℕ) (cells : List ℤ) (log : List ℕ) (results : Kind → List ℤ) : Type 0 where
   pub answers : answer ≡ numbers_of o.answer

@@ -1,14 +1,14 @@
 // What an answer tells, as eight numbers (docs/CALLING.md).
 // Rests on answers, engine, limits and runner.
 ghost use Rattle.std.specs.Prelude.{◌≡◌, Ok, Err};
-ghost use Rattle.answers.specs.Told.{Told, refused};
+ghost use Rattle.answers.specs.Told.{Told, refused, told_in};
 ghost use Rattle.answers.specs.Refusal.{rule_of};
 ghost use Rattle.limits.specs.Sizes.{asking};
 ghost use Rattle.planner.specs.Written.{told_by_writing};
 ghost use Rattle.runner.specs.Runner.{told_by_plan};
 ghost use Rattle.saved.specs.Saved.{told_by_conversion};
 ghost use Rattle.engine.specs.Answer.{told_by_run};
-ghost use Rattle.exports.specs.Answers.{numbers_of, told_in};
+ghost use Rattle.exports.specs.Answers.{numbers_of};
 
 use answers::Refusal;
 use engine::{Failure, Report};

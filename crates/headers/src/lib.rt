@@ -23,7 +23,7 @@ use plans::{Header, Span};
 
 // The methods (document 01, and asks 3, 5 and 8): what a header's method number stands for. What differs by method is a `match` on them, each arm a
 // function for headers of that method: a closure, a trait or a type for each would say the same five times over.
-#[derive(Clone, Copy)]
+#[derive(Clone, Copy, PartialEq, Eq)]
 pub enum Method {
     BellmanFord,
     Dijkstra,

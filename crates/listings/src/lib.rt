@@ -57,9 +57,11 @@ pub fn put_rows(
     ensures { Appended (65 * 1024) (rows_text all h.header distances.now parents.now) text.old text.new }
 {
     let n = h.header.vertices as usize;
-    match headers::method_of(h) {
-        Method::FloydWarshall => put_table(text, all, n, distances),
-        _ => put_yards(text, all, n, distances, parents),
+    let by_pairs = headers::method_of(h) == Method::FloydWarshall;
+    if by_pairs {
+        put_table(text, all, n, distances);
+    } else {
+        put_yards(text, all, n, distances, parents);
     }
 }
 
@@ -78,9 +80,10 @@ pub fn put_route(text: &mut Text<'_>, h: Header, route: &[i64; 31])
     requires { Room 688 text.old × (0 < h.vertices) × (h.vertices ≤ 32) }
     ensures { Appended 688 (route_text h route.now) text.old text.new }
 {
-    let Ok(Method::Routed) = Method::try_from(h.method) else {
+    let unrouted = !matches!(Method::try_from(h.method), Ok(Method::Routed));
+    if unrouted {
         return;
-    };
+    }
     text.put_bytes(b"route");
     put_steps(text, h.vertices as usize - 1, route);
     text.put_byte(b'\n');

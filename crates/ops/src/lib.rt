@@ -30,17 +30,20 @@ impl Op {
     pub fn parse(field: u64) -> Option<Op>
         ensures { MatchOption result (8 ≤ field) (λ op. code op ≡ field) }
     {
-        match field {
-            0 => Some(Op::Set),
-            1 => Some(Op::Copy),
-            2 => Some(Op::Add),
-            3 => Some(Op::Less),
-            4 => Some(Op::Equal),
-            5 => Some(Op::Both),
-            6 => Some(Op::MoveIf),
-            7 => Some(Op::Open),
-            _ => None,
+        let unknown = 7 < field;
+        if unknown {
+            return None;
         }
+        Some(match field {
+            0 => Op::Set,
+            1 => Op::Copy,
+            2 => Op::Add,
+            3 => Op::Less,
+            4 => Op::Equal,
+            5 => Op::Both,
+            6 => Op::MoveIf,
+            _ => Op::Open,
+        })
     }
 
     // And back.
@@ -156,7 +159,10 @@ fn value(op: Op, x: i64, y: i64) -> i64
     match op {
         Op::Copy => x,
         Op::Add => x.wrapping_add(y),
-        Op::Less => i64::from(x < y),
+        Op::Less => {
+            let below = x < y;
+            i64::from(below)
+        }
         Op::Equal => i64::from(x == y),
         Op::Both => i64::from(x != 0 && y != 0),
         Op::Set | Op::MoveIf | Op::Open => unreachable!(),
@@ -190,20 +196,26 @@ fn step_fields(cells: &mut [i64], w: Operation)
     requires { T (admissible_at (length cells.old) (code w.op) w.d w.a w.b) }
     ensures { cells.new ≡ carry (decode_at (code w.op) w.d w.a w.b) cells.old }
 {
-    match w.op {
-        Op::MoveIf => move_if(cells, w.d, w.a, w.b),
-        Op::Set => {
-            let k = constant(w.a, w.b);
-            cells[w.d as usize] = k;
-        }
-        Op::Open => {}
-        op => {
-            let x = cells[w.a as usize];
-            let y = cells[w.b as usize];
-            let v = value(op, x, y);
-            cells[w.d as usize] = v;
-        }
+    // By tests, MOVEIF's first, and no `match`: a jump to one of eight places is seldom foretold, and a run took up to 1.4 times as long.
+    let moves = w.op == Op::MoveIf;
+    if moves {
+        move_if(cells, w.d, w.a, w.b);
+        return;
     }
+    let sets = w.op == Op::Set;
+    if sets {
+        let k = constant(w.a, w.b);
+        cells[w.d as usize] = k;
+        return;
+    }
+    let publishes = w.op == Op::Open;
+    if publishes {
+        return;
+    }
+    let x = cells[w.a as usize];
+    let y = cells[w.b as usize];
+    let v = value(w.op, x, y);
+    cells[w.d as usize] = v;
 }
 
 // An admissible word carried out on the cells.
@@ -227,7 +239,7 @@ pub fn append(cells: &[i64], log: &mut [u64], at: usize, word: u64) -> usize
     let w = Operation::of(word);
     if let Op::Open = w.op {
         let cell = cells[w.a as usize];
-        log[at + 1] = cell.cast_unsigned();
+        log[at + 1] = fields::bits(cell, 64);
         return at + 2;
     }
     at + 1

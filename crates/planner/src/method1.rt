@@ -77,7 +77,7 @@ pub fn write_solve(h: AcceptedHeader, plan: &mut [u64]) -> usize
     let m = h.header.edges;
     let d = 3 * m;
     let env = [0, n, m, n - 1, 0, m, 2 * m, d, d + n, d + 2 * n, d + 3 * n];
-    tables::write(&SOLVE, n, &env, h.header.source, plan, 1)
+    tables::write_lines(&SOLVE, n, &env, h.header.source, plan, 1)
 }
 
 // The plan's words, written after its header word, the last one OPEN X+7, the verdict; the plan's length.

@@ -77,5 +77,5 @@ pub fn write(h: AcceptedHeader, plan: &mut [u64]) -> usize
         u + 4 * n,
         u + 5 * n,
     ];
-    tables::write(&LINES, n, &env, h.header.source, plan, 1)
+    tables::write_lines(&LINES, n, &env, h.header.source, plan, 1)
 }

@@ -121,5 +121,5 @@ pub fn write(h: AcceptedHeader, plan: &mut [u64]) -> usize
         s + m,
         s + m + n * m,
     ];
-    tables::write(&LINES, n, &env, h.header.source, plan, 1)
+    tables::write_lines(&LINES, n, &env, h.header.source, plan, 1)
 }

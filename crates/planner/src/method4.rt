@@ -107,5 +107,5 @@ pub fn write(h: AcceptedHeader, plan: &mut [u64]) -> usize
         c + 2 * n,
         c + 3 * n,
     ];
-    tables::write(&LINES, n, &env, h.header.source, plan, 1)
+    tables::write_lines(&LINES, n, &env, h.header.source, plan, 1)
 }

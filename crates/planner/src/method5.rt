@@ -63,5 +63,5 @@ pub fn write(h: AcceptedHeader, plan: &mut [u64]) -> usize
         d + 4 * n + 9,
     ];
     let next = crate::method1::write_solve(h, plan);
-    tables::write(&LINES, n, &env, h.header.source, plan, next)
+    tables::write_lines(&LINES, n, &env, h.header.source, plan, next)
 }

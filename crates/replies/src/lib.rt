@@ -2,14 +2,18 @@
 // Rests on engine, listings and text.
 #![tactic(auto)]
 
-ghost use Rattle.std.specs.Prelude.{◌≡◌, ◌≤◌, length, get_or};
+mod failing;
+
+ghost use Rattle.std.specs.Prelude.{◌≡◌, ◌≤◌, Ok, length, get_or};
 ghost use Rattle.text.specs.Appended.{Room, Appended};
 ghost use Rattle.answers.specs.Refusal.{option_of};
+ghost use Rattle.answers.specs.Told.{told_in};
 ghost use Rattle.plans.specs.Plan.{Accepted};
 ghost use Rattle.engine.specs.Answer.{values_of, told_by_run};
 ghost use Rattle.printing.specs.Texts.{results_text, refusal_text, told_text, told_log};
 
-use engine::{Failure, Report};
+use engine::Report;
+pub use failing::{Fails, OtherRefusal};
 use headers::AcceptedHeader;
 use plans::Header;
 use text::Text;
@@ -55,17 +59,17 @@ pub fn put_refusal(text: &mut Text<'_>, number: u64, place: Option<usize>)
 }
 
 // What the desk's program prints of an answer. A loss circle is refused too, by 12: it has no results.
-pub fn put_answer(
+pub fn put_answer<F: Fails + Copy>(
     text: &mut Text<'_>,
     all: bool,
     h: Header,
-    answer: Result<Report, Failure>,
+    answer: Result<Report, F>,
     distances: &[i64; 1024],
     parents: &[i64; 32],
     route: &[i64; 31],
 )
-    requires { Room 67374 text.old × ((told_by_run answer).number ≡ 0 → Accepted h) }
-    ensures { Appended 67374 (told_text all h (told_by_run answer) distances.now parents.now route.now) text.old text.new }
+    requires { Room 67374 text.old × ((told_in (λ r. told_by_run (Ok r)) F.told answer).number ≡ 0 → Accepted h) }
+    ensures { Appended 67374 (told_text all h (told_in (λ r. told_by_run (Ok r)) F.told answer) distances.now parents.now route.now) text.old text.new }
 {
     match answer {
         Ok(report) => {
@@ -79,20 +83,20 @@ pub fn put_answer(
                 route,
             );
         }
-        Err(Failure::NegativeCycle(_)) => put_refusal(text, 12, None),
-        Err(Failure::Refused(refusal)) => put_refusal(text, refusal.number(), refusal.place()),
+        Err(failure) => put_refusal(text, failure.number(), failure.place()),
     }
 }
 
 // What `host_log` prints: the log of a request that ran, with a loss circle too, or the refusal.
-pub fn put_log(text: &mut Text<'_>, answer: Result<Report, Failure>, log: &[u64])
-    requires { Room 139264 text.old × (length log.now ≡ 8192) × (get_or (told_by_run answer).values 1 0 ≤ 8192) }
-    ensures { Appended 139264 (told_log (told_by_run answer) log.now) text.old text.new }
+pub fn put_log<F: Fails + Copy>(text: &mut Text<'_>, answer: Result<Report, F>, log: &[u64])
+    requires { Room 139264 text.old × (length log.now ≡ 8192) × (get_or (told_in (λ r. told_by_run (Ok r)) F.told answer).values 1 0 ≤ 8192) }
+    ensures { Appended 139264 (told_log (told_in (λ r. told_by_run (Ok r)) F.told answer) log.now) text.old text.new }
 {
     match answer {
-        Ok(report) | Err(Failure::NegativeCycle(report)) => {
-            listings::put_words(text, log, report.log_length);
-        }
-        Err(Failure::Refused(refusal)) => put_refusal(text, refusal.number(), refusal.place()),
+        Ok(report) => listings::put_words(text, log, report.log_length),
+        Err(failure) => match failure.log_length() {
+            Some(length) => listings::put_words(text, log, length),
+            None => put_refusal(text, failure.number(), failure.place()),
+        },
     }
 }

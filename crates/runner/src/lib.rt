@@ -81,7 +81,7 @@ fn carry_plan(plan: &[u64], cells: &mut [i64], log: &mut [u64])
     log[0] = *header;
     // The log and the place stay two, here and in `append`: a struct of both would be made, lent and taken apart in this one function.
     let mut at: usize = 1;
-    for &word in words {
+    'words: for &word in words {
         at = ops::append(cells, log, at, word);
         ops::step(cells, word);
     }

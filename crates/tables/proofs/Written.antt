@@ -63,7 +63,7 @@ parted f (suc count) j h =
     ⊎_elim (λ (e : j ≡ count). ([], rw (e, append-nil)))
     (λ (l : j < count).
     let q = parted f count j l in
-    (q.0 ++ f count, rw (← append_assoc, ← append_assoc, append_assoc (flat j f) (f j) q.0, q.1)))
+    (q.0 ++ f count, rw (← append_assoc (f j) q.0 (f count), ← append_assoc (flat j f) (f j ++ q.0) (f count), q.1)))
     (eq-or-lt_of_le (le_of_suc-le-suc h))
 
 pub begin : (f : ℕ → List ℕ) (b : List ℕ) (at : ℕ) → Wrote (flat 0 f) b b at at

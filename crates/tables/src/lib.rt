@@ -197,8 +197,33 @@ impl Writer {
     }
 }
 
-// The words of a plan's lines, written from `at` on; the place after them.
-pub fn write<const LINES: usize>(
+// The words of a plan's lines, written from `at` on; the place after them. Their rows go to `table`.
+pub fn write(
+    lines: &[u64],
+    width: u64,
+    env: &[u64],
+    source: u64,
+    table: &mut [Row],
+    out: &mut [u64],
+    at: usize,
+) -> usize
+    requires { (length lines.now ≤ length table.old) × Writable width env.now lines.now source out.old at }
+    ensures { Wrote (lines_words width env.now lines.now source) out.old out.new at result }
+{
+    rows::assemble(lines, width, env, table);
+    let start = Writer {
+        source,
+        k: Counters {
+            outer: 0,
+            middle: 0,
+            inner: 0,
+        },
+    };
+    start.words(&table[..lines.len()], out, at)
+}
+
+// The same, with a table as long as the lines.
+pub fn write_lines<const LINES: usize>(
     lines: &[u64; LINES],
     width: u64,
     env: &[u64],
@@ -210,14 +235,5 @@ pub fn write<const LINES: usize>(
     ensures { Wrote (lines_words width env.now lines.now source) out.old out.new at result }
 {
     let mut table = [rows::EMPTY; LINES];
-    rows::assemble(lines, width, env, &mut table);
-    let start = Writer {
-        source,
-        k: Counters {
-            outer: 0,
-            middle: 0,
-            inner: 0,
-        },
-    };
-    start.words(&table, out, at)
+    write(lines, width, env, source, &mut table, out, at)
 }

@@ -1,7 +1,7 @@
--- `exports::vukstaja_run` meets its contract. Rests on Told.
+-- `exports::vukstaja_run` meets its contract. Rests on the engine's Told.
 use mathlib.Core.Path.{◌∙◌, ap}
 use Rattle.exports.specs.Answers.{numbers_of}
-use Rattle.exports.proofs.Told.{by_run}
+use Rattle.engine.proofs.Told.{by_run}
 use Rattle.exports.proofs.vukstaja_run.Goals as goal
 
 pub returns : goal.returns

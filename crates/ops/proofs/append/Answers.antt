@@ -3,17 +3,17 @@ use Rattle.std.proofs.Common.{◌≡◌, [], ◌∷◌, length, sym, ap, ◌∙�
 use Rattle.machine.specs.Log.{logged}
 use Rattle.machine.proofs.Admitted.{op_below, open_a}
 use Rattle.machine.proofs.Appended.{logged_open, logged_other, logged_some, one_more, two_more}
-use Rattle.machine.proofs.Tested.{kept, bits_is}
+use Rattle.machine.proofs.Tested.{kept}
 use Rattle.ops.specs.Op.{code}
 use Rattle.ops.proofs.Named.{other}
 use Rattle.ops.specs.declared.Op.TheVariants.{Open}
 use Rattle.ops.proofs.append.Goals as goal
 
-whole : (c : goal.After-cast_unsigned) → let s = c.args in
-    logged s.word s.cells.now ≡ s.word ∷ c.cast_unsigned.result ∷ []
+whole : (c : goal.After-bits) → let s = c.args in
+    logged s.word s.cells.now ≡ s.word ∷ c.bits.result ∷ []
 whole c =
     let f = c.of-w.ensures in
-    logged_open _ _ (f.op_is ∙ ap code c.in-Open.is) ∙ rw (c.cast_unsigned.ensures, kept _ c.cell-1.given, bits_is, f.a_is)
+    logged_open _ _ (f.op_is ∙ ap code c.in-Open.is) ∙ rw (c.bits.ensures, kept _ c.cell-1.given, f.a_is)
 
 pub of-w-requires : goal.of-w-requires
 of-w-requires c = op_below _ _ _ _ _ c.requires.0

@@ -11,27 +11,27 @@ returns-in_default c = no_words _ _ _ (omega arith)
 pub bounds-log-0 : goal.bounds-log-0
 bounds-log-0 c = has_header c.args.plan.now c.args.cells.now c.args.log.now (omega arith) c.requires.1
 
-pub loop-word-init : goal.loop-word-init
-loop-word-init c = start _ _ c.args.log.now _ (omega arith) refl c.requires.0 c.requires.1
+pub words-init : goal.words-init
+words-init c = start _ _ c.args.log.now _ (omega arith) refl c.requires.0 c.requires.1
 
 pub append-at-requires : goal.append-at-requires
 append-at-requires c =
     let plan = c.args.plan.now in
     let l = tail_long plan c.in-len1-up.len_at_least in
-    let i = c.loop-word.invariant in
+    let i = c.words.invariant in
     (can i.carrying (omega arith) _ (tail_word plan _), fits i (omega arith) _ (tail_word plan _))
 
 pub step-requires : goal.step-requires
 step-requires c =
     let l = tail_long c.args.plan.now c.in-len1-up.len_at_least in
-    can c.loop-word.invariant.carrying (omega arith) _ (tail_word c.args.plan.now _)
+    can c.words.invariant.carrying (omega arith) _ (tail_word c.args.plan.now _)
 
-pub loop-word-preserved : goal.loop-word-preserved
-loop-word-preserved c =
+pub words-preserved : goal.words-preserved
+words-preserved c =
     let l = tail_long c.args.plan.now c.in-len1-up.len_at_least in
-    again c.loop-word.invariant (omega arith) _ (tail_word c.args.plan.now _) _ _ _ c.step.ensures c.append-at.ensures
+    again c.words.invariant (omega arith) _ (tail_word c.args.plan.now _) _ _ _ c.step.ensures c.append-at.ensures
 
 pub returns : goal.returns
 returns c =
     let l = tail_long c.args.plan.now c.in-len1-up.len_at_least in
-    done _ c.loop-word.invariant (omega arith) refl (omega arith)
+    done _ c.words.invariant (omega arith) refl (omega arith)

@@ -3,5 +3,5 @@ use Prim.Native.Nat.{◌+◌}
 use Rattle.runner.proofs.Turn.{Turn}
 use Rattle.runner.proofs.carry_plan.Given as goal
 
-abbrev pub invariant-loop-word : goal.invariant-loop-word
-invariant-loop-word l = Turn l.plan l.initial.cells l.initial.log l.cells l.log l.at (l.word-index + 1)
+abbrev pub invariant-words : goal.invariant-words
+invariant-words l = Turn l.plan l.initial.cells l.initial.log l.cells l.log l.at (l.word-index + 1)

@@ -4,8 +4,8 @@ use Rattle.planner.proofs.Lines.{solve_lines}
 use Rattle.planner.proofs.Tables.{may_solve, was_solved}
 use Rattle.planner.proofs.method1.write_solve.Goals as goal
 
-pub write-requires : goal.write-requires
-write-requires c = (omega arith, (omega arith, may_solve _ c.args.h.within_limits _ (solve_lines _ _) c.requires))
+pub write_lines-requires : goal.write_lines-requires
+write_lines-requires c = (omega arith, (omega arith, may_solve _ c.args.h.within_limits _ (solve_lines _ _) c.requires))
 
 pub returns : goal.returns
-returns c = was_solved _ c.args.h.within_limits _ (solve_lines _ _) c.write.ensures
+returns c = was_solved _ c.args.h.within_limits _ (solve_lines _ _) c.write_lines.ensures

@@ -4,8 +4,8 @@ use Rattle.planner.proofs.Lines.{lines3}
 use Rattle.planner.proofs.Tables.{outlined3, may_write, was_written}
 use Rattle.planner.proofs.method3.write.Goals as goal
 
-pub write-requires : goal.write-requires
-write-requires c = (omega arith, (omega arith, may_write (outlined3 _ c.args.h.within_limits c.requires.0) c.args.h.within_limits _ (lines3 _ _) _ c.requires.1))
+pub write_lines-requires : goal.write_lines-requires
+write_lines-requires c = (omega arith, (omega arith, may_write (outlined3 _ c.args.h.within_limits c.requires.0) c.args.h.within_limits _ (lines3 _ _) _ c.requires.1))
 
 pub returns : goal.returns
-returns c = was_written (outlined3 _ c.args.h.within_limits c.requires.0) c.args.h.within_limits _ (lines3 _ _) c.write.ensures
+returns c = was_written (outlined3 _ c.args.h.within_limits c.requires.0) c.args.h.within_limits _ (lines3 _ _) c.write_lines.ensures

@@ -14,9 +14,9 @@ unfolding solve_words instructions
 write_solve-next-requires c =
     first_room Method1.solve Method5.show (outlined5 _ c.args.h.within_limits c.requires.0) c.args.h.within_limits _ c.requires.1
 
-pub write-requires : goal.write-requires
+pub write_lines-requires : goal.write_lines-requires
 unfolding solve_words instructions
-write-requires c = (
+write_lines-requires c = (
   omega arith,
   (
     omega arith,
@@ -28,4 +28,4 @@ pub returns : goal.returns
 unfolding solve_words instructions
 returns c =
     rest_was_written Method1.solve Method5.show (outlined5 _ c.args.h.within_limits c.requires.0) c.args.h.within_limits _ c.requires.1 c.write_solve-next.ensures _ (lines5 _ _)
-    c.write.ensures
+    c.write_lines.ensures
